@@ -299,8 +299,8 @@ class Locations {
 public:
     Locations(std::string_view text, Numbers places, std::size_t most) noexcept {
         for (const std::size_t place : places) {
-            // A place behind the text has a location in no data part.
-            const std::size_t location = place < text.size() ? text.size() - 1 - place : text.size();
+            // A place behind the text is as a location in no data part.
+            const std::size_t location = place < text.size() ? text.size() - 1 - place : place;
             if (!has(location) && size_ <= most) {
                 items_[size_++] = location;
             }
@@ -318,7 +318,7 @@ private:
         return found;
     }
     std::size_t size_ = 0;
-    std::size_t items_[8];
+    std::size_t items_[8] = {};
 };
 
 /* The most erasures that are listed, of Bech32 and Bech32m, and of Blech32; one more is none too few. */
@@ -443,8 +443,10 @@ inline Outcome<Address> decode(std::string_view text) noexcept {
 
 /*
  * Did you mean? Lists the addresses of a network, that of `hrp` in either case, that someone may have meant
- * who typed `text`, in which each `?` cannot be read. Each is a guess: show it, and let people compare it
- * with the source before it is paid to. bech32.h says which texts are tried, and in which order.
+ * who typed `text`, in which each `?` cannot be read. They are of forms in use (version 0 with 20 or 32 bytes,
+ * version 1 with 32), but for the text itself, which is listed if it is an address of the network. Each is a
+ * guess: show it, and let people compare it with the source before it is paid to. bech32.h says which texts
+ * are tried, and in which order.
  *
  * Refusals, the first that applies: of `hrp` 2, 11 to 15; of `text` 2; 21, 22, 23, 11 to 15; 91.
  */
@@ -514,18 +516,22 @@ inline Outcome<Address> decode(std::string_view text) noexcept {
 }
 
 /*
- * Lists the texts near to a mistyped one, by Blech32, with `errors` from 0 to 3 beside at most six erasures.
- * Where twice the errors, plus the number of erasures, is at most six, there is one at most.
+ * Lists the texts near to a mistyped one, by Blech32, with `errors` from 0 to 3 beside at most six erasures:
+ * twice the errors, plus the number of erasures, may be at most seven. Where it is at most six, there is one
+ * text at most: so many errors are looked for where they are left out, three without erasures and none beside
+ * six.
  *
  * Refusals, the first that applies: 4; 2; 21, 22, 23, 11 to 15; 31, 32; 92; and 91 in place of 92.
  */
 inline Outcome<Texts> nearest(std::string_view text, SearchSpace room, Numbers erasures = {},
-                              std::size_t errors = BECH32_MAX_LIQUID_ERRORS) noexcept {
+                              std::optional<std::size_t> errors = std::nullopt) noexcept {
     const detail::Locations known(text, erasures, detail::most_liquid_erasures);
+    const std::size_t erased = known.size(), most = detail::most_liquid_erasures;
     std::size_t count = 0;
     const std::uint32_t refused =
-        bech32_liquid_nearest(detail::at(text), text.size(), known.data(), known.size(), errors, room.memory.lent(),
-                              room.texts, room.texts_room, &count);
+        bech32_liquid_nearest(detail::at(text), text.size(), known.data(), erased,
+                              errors.value_or(erased < most ? (most - erased) / 2 : 0), room.memory.lent(), room.texts,
+                              room.texts_room, &count);
     if (refused != BECH32_OK) {
         return detail::refused_search(refused, text, count);
     }
@@ -629,8 +635,10 @@ private:
 
 /*
  * Lists the texts with a right checksum that come from a text by two of its characters changed. Either may be
- * in the checksum, or be the `#`. Try `mend` first, which takes a tenth of the time and of the memory. bech32.h
- * says their order. They may be none of what was meant: compare them with the wallet's addresses.
+ * in the checksum, or be the `#`. Try `mend` first: where two characters are wrong, it takes about a 15th of the
+ * time at 30 characters and a 150th at 1,400, and less memory. A text has at most BECH32_MAX_DESCRIPTOR_TWO characters, so
+ * that of 100 that are no mistyped descriptors at most one is expected to be answered with any. bech32.h says their
+ * order. They may be none of what was meant: compare them with the wallet's addresses.
  *
  * Refusals, the first that applies: 89; 92; and 91 in place of 92.
  */

@@ -196,14 +196,19 @@ struct TextsSpace {
  *
  * Returns how many rows are put: fewer than there are where a buffer has no room for more. The next call is for
  * texts.rows(of these).
+ *
+ * Refusals: of a human-readable part that is not empty 2, 12 to 15. Then nothing is put.
  */
-inline std::size_t decode_many(const Column& texts, std::string_view hrp, const AddressesSpace& into) noexcept {
+inline Outcome<std::size_t> decode_many(const Column& texts, std::string_view hrp, const AddressesSpace& into) noexcept {
     const std::size_t count = detail::least(texts.size(), into.numbers.size());
     std::size_t done = 0;
-    (void)bech32_segwit_decode_many(&texts.column(), texts.first(), detail::at(hrp), hrp.size(), into.numbers.data(),
-                                    count, into.versions.data(), into.versions.size(), into.hrp_lengths.data(),
-                                    into.hrp_lengths.size(), into.program_offsets.data(), into.program_offsets.size(),
-                                    into.programs.data(), into.programs.size(), &done);
+    const std::uint32_t refused = bech32_segwit_decode_many(
+        &texts.column(), texts.first(), detail::at(hrp), hrp.size(), into.numbers.data(), count, into.versions.data(),
+        into.versions.size(), into.hrp_lengths.data(), into.hrp_lengths.size(), into.program_offsets.data(),
+        into.program_offsets.size(), into.programs.data(), into.programs.size(), &done);
+    if (refused != BECH32_OK && refused != BECH32_NO_ROOM) {
+        return Refusal(refused);
+    }
     return done;
 }
 

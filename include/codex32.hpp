@@ -293,7 +293,11 @@ Outcome<SecretText> derive(char share_index, const List& texts) noexcept {
  * nothing of it if the random bytes are uniform. `random` has CODEX32_RANDOM_SIZE(threshold, secret.size())
  * bytes, of the operating system's generator: use them for one call alone, and wipe them and the secret.
  *
- * Refusals, the first that applies: 83, 85, 84 (the threshold is 0), 55, 65, 66.
+ * Give each split a new identifier, drawn at random: shares of two splits of one secret with the same
+ * identifier are taken for one set, and as many of them as the threshold recover other bytes, without a
+ * refusal. To get more shares later, derive them from enough shares (`derive`).
+ *
+ * Refusals, the first that applies: 83, 85, 84 (the threshold is 0), 55, 65, 66, 68.
  */
 inline Outcome<Shares> split(std::uint32_t threshold, std::string_view identifier, Octets secret, Octets random,
                              std::size_t count) noexcept {

@@ -721,7 +721,8 @@ uint32_t bech32_segwit_decode_many(const bech32_column *texts, size_t first, con
         number = of_bech32_segwit_decode_many(&m, at, (first + put) % 8, hrp_at, hrp_length, numbers_at, rows, versions_at,
                                               most_versions, lengths_at, most_lengths, told_at + 8, items, programs_at, left,
                                               told_at);
-        if (number == BECH32_BAD_NUMBER) {
+        /* There are no such rows, or the part is none: nothing is put. */
+        if (number != BECH32_OK && number != BECH32_NO_ROOM) {
             return number;
         }
         rows = (size_t)get_64(told);

@@ -93,7 +93,8 @@ Bytes8 decoded(const Column& texts, std::string_view hrp, std::size_t room, cons
     std::vector<std::int32_t> offsets(texts.size() + 1);
     for (std::size_t done = 0; done < texts.size();) {
         const View<std::uint8_t> own(numbers.data() + done, numbers.size() - done);
-        const std::size_t put = segwit::decode_many(texts.rows(done), hrp, {own, versions, lengths, offsets, programs});
+        const auto found = segwit::decode_many(texts.rows(done), hrp, {own, versions, lengths, offsets, programs});
+        const std::size_t put = found ? *found : 0;
         WANT(put > 0);
         const Rows rows({offsets.data(), put + 1}, programs);
         WANT(rows.size() == put);
@@ -118,7 +119,16 @@ void addresses_are_decoded(const Held& all) {
     decoded(small, "", room, all, 0);
     WANT(decoded(large.rows(77, 300).rows(5, 9), "bc", room, all, 82) == Bytes8(numbers.begin() + 82, numbers.begin() + 91));
     Bytes8 alone(numbers.size());
-    WANT(segwit::decode_many(small, "bc", {alone}) == alone.size() && alone == numbers);
+    const auto put = segwit::decode_many(small, "bc", {alone});
+    WANT(put && *put == alone.size() && alone == numbers);
+    const Bytes8 before(numbers.size(), 7);
+    alone = before;
+    const std::pair<std::string, std::uint32_t> none[] = {
+        {"\xff", BECH32_NOT_UTF8}, {std::string(84, 'q'), BECH32_HRP_TOO_LONG}, {"b\xc3\xa9", BECH32_HRP_NOT_ASCII},
+        {" bc", BECH32_HRP_INVALID}, {"Bc", BECH32_HRP_MIXED_CASE}};
+    for (const auto& [hrp, want] : none) {
+        WANT(number(segwit::decode_many(small, hrp, {alone}).error()) == want && alone == before);
+    }
     Bytes8 validity((numbers.size() + 7) / 8), too_few(validity.size() - 1);
     const auto accepted = validity_of(numbers, validity);
     std::size_t count = 0;

@@ -30,8 +30,12 @@ struct DecodeResult {
 /* What a text says, by the checksum that accepts it, or nothing with Encoding::INVALID. */
 DecodeResult Decode(const std::string& str, CharLimit limit = CharLimit::BECH32);
 
-/* Why a text is refused, and the places of the characters at fault: none where no single one is. With a wrong checksum,
- * those that a correction by either checksum changes. */
+/*
+ * Why a string is refused, in the node's words, and the places of the characters at fault: all that may not be there or have
+ * the wrong case, the separator, or the first character outside the alphabet. With a wrong checksum, the one or two data
+ * characters whose change makes it right, by the checksum that needs fewer; none where there are none. Both are empty for a
+ * string with a right checksum.
+ */
 std::pair<std::string, std::vector<int>> LocateErrors(const std::string& str, CharLimit limit = CharLimit::BECH32);
 
 }  // namespace bech32

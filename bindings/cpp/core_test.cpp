@@ -13,6 +13,40 @@ void expect(bool holds, const char* what) {
     }
 }
 
+/* A string that the node's own test of LocateErrors refuses, with its sentence and places. */
+struct Located {
+    const char* text;
+    const char* sentence;
+    std::vector<int> places;
+};
+
+void locates_as_the_node_does() {
+    const Located known[] = {
+        {" 1nwldj5", "Invalid character or mixed case", {0}},
+        {"\x7f" "1axkwrx", "Invalid character or mixed case", {0}},
+        {"\x80" "1eym55h", "Invalid character or mixed case", {0}},
+        {"an84characterslonghumanreadablepartthatcontainsthetheexcludedcharactersbioandnumber11d6pts4",
+         "Bech32 string too long", {90}},
+        {"pzry9x0s0muk", "Missing separator", {}},
+        {"1pzry9x0s0muk", "Invalid separator position", {0}},
+        {"x1b4n0q5v", "Invalid Base 32 character", {2}},
+        {"li1dgmt3", "Invalid separator position", {2}},
+        {"de1lg7wt\xff", "Invalid character or mixed case", {8}},
+        {"A1G7SGD8", "Invalid checksum", {}},
+        {"10a06t8", "Invalid separator position", {0}},
+        {"1qzzfhee", "Invalid separator position", {0}},
+        {"a12UEL5L", "Invalid character or mixed case", {3, 4, 5, 7}},
+        {"A12uEL5L", "Invalid character or mixed case", {3}},
+        {"abcdef1qpzrz9x8gf2tvdw0s3jn54khce6mua7lmqqqxw", "Invalid Bech32 checksum", {11}},
+        {"test1zg69w7y6hn0aqy352euf40x77qddq3dc", "Invalid Bech32 checksum", {9, 16}},
+    };
+    for (const auto& [text, sentence, places] : known) {
+        const auto found = bech32::LocateErrors(text);
+        expect(found.first == sentence, text);
+        expect(found.second == places, text);
+    }
+}
+
 }  // namespace
 
 int main() {
@@ -45,6 +79,7 @@ int main() {
     }
     const auto fault = bech32::LocateErrors("a12uel5q");
     expect(fault.second == std::vector<int>{7}, "a wrong character is found");
+    locates_as_the_node_does();
     expect(bech32::Encode(bech32::Encoding::BECH32, "", {}).empty(), "no text has an empty part");
     expect(bech32::Encode(bech32::Encoding::BECH32, "a", {32}).empty(), "no text has an element of 32");
     expect(bech32::Encode(bech32::Encoding::INVALID, "a", {}).empty(), "no text is of no checksum");

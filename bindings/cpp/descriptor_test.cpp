@@ -62,8 +62,11 @@ void lists_no_others() {
 
 /* The numbers of the header, with nothing that the caller did not make. */
 void refuses() {
-    const auto too_long = descriptor::mend_two(std::string(7501, 'x'), room);
-    expect(!too_long && too_long.error().number() == BECH32_DESCRIPTOR_TOO_LONG, "7,501 characters are too many");
+    const auto too_long = descriptor::mend_two(std::string(BECH32_MAX_DESCRIPTOR_TWO + 1, 'x'), room);
+    expect(!too_long && too_long.error().number() == BECH32_DESCRIPTOR_TOO_LONG, "1,401 characters are too many");
+    static MendTwoRoom<BECH32_MAX_DESCRIPTOR_TWO> large;
+    const auto longest = descriptor::mend_two(std::string(BECH32_MAX_DESCRIPTOR_TWO, 'x'), large);
+    expect(longest && longest->empty(), "1,400 characters are not too many");
     const std::string wrong = "sawqdeadbeef)#89f8spxm";
     std::vector<std::size_t> places(2);
     std::vector<std::uint8_t> texts(wrong.size()), bytes(BECH32_DESCRIPTOR_TWO_MEMORY(wrong.size()) + 15);

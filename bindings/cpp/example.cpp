@@ -1,6 +1,8 @@
 /* What bech32.hpp and codex32.hpp are for: texts, addresses, mistyped ones, descriptors, and shares of a secret. */
+#include <algorithm>
 #include <array>
 #include <cstdio>
+#include <random>
 #include <string>
 #include <vector>
 
@@ -62,14 +64,14 @@ void descriptors() {
     }
 }
 
-/* A secret as shares, of which two recover it. Random bytes of a real secret are the operating system's. */
+/* A secret as shares, of which two recover it. The random bytes are the operating system's. */
 void shares() {
     const std::vector<std::uint8_t> secret(16, 7);
-    const std::vector<std::uint8_t> random(CODEX32_RANDOM_SIZE(2, 16), 9);
+    std::vector<std::uint8_t> random(CODEX32_RANDOM_SIZE(2, 16));
+    std::random_device device;
+    std::generate(random.begin(), random.end(), [&] { return static_cast<std::uint8_t>(device()); });
     const auto made = codex32::split(2, "test", secret, random, 3);
-    for (const std::string_view share : *made) {
-        shown(share);
-    }
+    std::printf("%zu shares of %zu characters\n", made->size(), (*made)[0].size());
     const auto found = codex32::recover(std::array<std::string_view, 2>{(*made)[2], (*made)[0]});
     std::printf("%s\n", *found == secret ? "the secret" : "another secret");
     codex32_wipe_stack();

@@ -80,7 +80,7 @@ std::vector<size_t> places_in(Word word, size_t text_size) {
     }
     places.resize(count);
     for (size_t& it : places) {
-        it = it < text_size ? text_size - 1 - it : text_size;
+        it = it < text_size ? text_size - 1 - it : it;
     }
     return places;
 }
@@ -252,8 +252,11 @@ uint32_t correct_line(const Words* words, Out* out) {
     });
 }
 
-/* No search is lent more. bech32.h says what a text can need: 860 megabytes at its longest. */
-constexpr size_t most_memory = size_t{1} << 30;
+/* No search is lent more: 16 MiB. A text can need 860 megabytes (bech32.h): its search ends in 91. */
+constexpr size_t most_memory = size_t{1} << 24;
+
+/* Of more near texts than this, as many are put, the first, and that there are more. */
+constexpr size_t most_texts = 1000;
 
 /* Memory that is lent, and where results are put: they grow where they do not suffice. */
 struct Grown {
@@ -277,7 +280,7 @@ struct Grown {
             if (found.error().number() == BECH32_NO_ROOM) {
                 most = *found.error().count();
             } else if (found.error().number() == BECH32_NO_MEMORY && memory_size < most_memory) {
-                memory_size *= 2;
+                memory_size = memory_size < most_memory / 2 ? 2 * memory_size : most_memory;
             } else {
                 return found;
             }
@@ -297,16 +300,19 @@ uint32_t nearest_line(const Words* words, Out* out) {
             places = places_in(words->word[2], text.size());
         }
         const size_t errors = number_in(words->word[words->count - 1], BECH32_MAX_ERRORS);
-        const size_t size = measured(text);
-        Grown room{BECH32_NEAREST_FEW_MEMORY(size), BECH32_NEAREST_FEW_TEXTS(size), text.size(), {}, {}, {}, {}};
+        Grown room{most_memory, most_texts, text.size(), {}, {}, {}, {}};
+        bool are_all = true;
         const auto found = room.searched([&](Memory& lent) {
-            return nearest(checksum, text, {lent, room.texts.data(), room.texts.size()}, places, errors);
+            const auto listed = nearest(checksum, text, {lent, room.texts.data(), room.texts.size()}, places, errors);
+            are_all = listed || listed.error().number() != BECH32_NO_ROOM;
+            return are_all ? listed : Outcome<Texts>(Texts(room.texts.data(), text.size(), most_texts));
         });
         return said(out, found, [&](const Texts& texts) {
             for (const std::string_view near : texts) {
                 put_text(out, " ");
                 put(out, near);
             }
+            put_text(out, are_all ? "" : " more");
         });
     });
 }

@@ -115,7 +115,10 @@ func TestTwoChangedCharacters(t *testing.T) {
 			t.Error(text, found, err)
 		}
 	}
-	long := strings.Repeat("x", 7501)
+	if found, err := descriptor.MendTwo(strings.Repeat("x", 1400)); err != nil || len(found) != 0 {
+		t.Error(found, err)
+	}
+	long := strings.Repeat("x", 1401)
 	var refused *bech32proved.Refused
 	if _, err := descriptor.MendTwo(long); !errors.As(err, &refused) || !errors.Is(err, bech32proved.DescriptorTooLong) ||
 		refused.Number != 89 || refused.Place != -1 || refused.Text != long {
@@ -139,8 +142,56 @@ func TestLiquid(t *testing.T) {
 	if err != nil || len(near) != 1 || near[0].Text != text || len(near[0].Changes) != 2 {
 		t.Fatal(near, err)
 	}
+	if near, err = liquid.Nearest(text, 3, 5); err != nil || len(near) == 0 || near[0].Text != text {
+		t.Fatal(near, err)
+	}
+	if _, err = liquid.Nearest(text, 3, 5, 6); !errors.Is(err, bech32proved.BadNumber) {
+		t.Fatal(err)
+	}
+	if near, err = liquid.Nearest(text, 3, 5, 6, 7, 8, 9, 10, 11); err != nil || len(near) != 0 {
+		t.Fatal(near, err)
+	}
 	if _, err := liquid.Encode("lq", 0, nil, address.Program); !errors.Is(err, bech32proved.NoBlindingKey) {
 		t.Fatal(err)
+	}
+}
+
+func decodedMany(t *testing.T, texts []string, hrp string) []segwit.Row {
+	rows, err := segwit.DecodeMany(texts, hrp)
+	if err != nil {
+		t.Fatal(hrp, err)
+	}
+	return rows
+}
+
+func decodedColumn(t *testing.T, texts bech32proved.Column, hrp string) segwit.Addresses {
+	found, err := segwit.DecodeColumn(texts, hrp)
+	if err != nil {
+		t.Fatal(hrp, err)
+	}
+	return found
+}
+
+// A wanted human-readable part that is none is refused, also of a column without rows.
+func TestWantedParts(t *testing.T) {
+	for hrp, want := range map[string]bech32proved.Number{"\xff": bech32proved.NotUtf8, strings.Repeat("q", 84): bech32proved.HrpTooLong,
+		"b\u00e9": bech32proved.HrpNotAscii, " bc": bech32proved.HrpInvalid, "Bc": bech32proved.HrpMixedCase} {
+		for _, texts := range [][]string{nil, {"bc1qw508d6qejxtdg4y5r3zarvary0c5xw7kv8f3t4"}} {
+			if rows, err := segwit.DecodeMany(texts, hrp); rows != nil || !errors.Is(err, want) {
+				t.Error(hrp, rows, err)
+			}
+		}
+	}
+}
+
+// The text itself may be of any form, here version 1 with 33 bytes, and a guess may not.
+func TestFormsInUse(t *testing.T) {
+	other := "bc1paek6qccmuwpjh9cyknjdedcyr06lgvh83edqsvtpmaaahwx2cszk7d0t7tv"
+	if found, err := segwit.Suggest(other, "bc"); err != nil || len(found) != 1 || found[0].Text != other {
+		t.Error(found, err)
+	}
+	if found, err := segwit.Suggest(strings.Replace(other, "7tv", "7tw", 1), "bc"); err != nil || len(found) != 0 {
+		t.Error(found, err)
 	}
 }
 
@@ -148,7 +199,7 @@ func TestLiquid(t *testing.T) {
 func TestColumns(t *testing.T) {
 	texts := []string{"bc1qw508d6qejxtdg4y5r3zarvary0c5xw7kv8f3t4", "BC1SW50QGDZ25J", "bc1pw5dgrnzv", "", "é", "a12uel5l",
 		"tb1qrp33g0q5c5txsp9arysrx4k6zdkfs4nce4xj0gdcccefvpysxf3q0sl5k7"}
-	for at, row := range segwit.DecodeMany(texts, "") {
+	for at, row := range decodedMany(t, texts, "") {
 		address, err := segwit.Decode(texts[at])
 		if err == nil && (row.Number != 0 || row.Address.HRP != address.HRP || row.Address.Version != address.Version ||
 			!bytes.Equal(row.Address.Program, address.Program)) {
@@ -158,7 +209,7 @@ func TestColumns(t *testing.T) {
 			t.Error(texts[at], row, err)
 		}
 	}
-	if rows := segwit.DecodeMany(texts, "bc"); rows[1].Number != 0 || rows[6].Number != bech32proved.OtherHrp {
+	if rows := decodedMany(t, texts, "bc"); rows[1].Number != 0 || rows[6].Number != bech32proved.OtherHrp {
 		t.Error(rows)
 	}
 	for _, checksum := range []bech32proved.Checksum{bech32proved.Bech32, bech32proved.Bech32m} {
@@ -181,7 +232,7 @@ func TestColumns(t *testing.T) {
 	if numbers[0] != 0 || made[0] != one || numbers[1] != bech32proved.EncodedBadVersion || made[1] != "" {
 		t.Error(numbers, made)
 	}
-	if rows := segwit.DecodeMany(nil, "bc"); len(rows) != 0 {
+	if rows := decodedMany(t, nil, "bc"); len(rows) != 0 {
 		t.Error(rows)
 	}
 }
@@ -191,7 +242,7 @@ func TestColumnsOfArrow(t *testing.T) {
 	address, other := "bc1qw508d6qejxtdg4y5r3zarvary0c5xw7kv8f3t4", "BC1SW50QGDZ25J"
 	data := []byte(address + other + "x")
 	column := bech32proved.Column{Bytes: data, Offsets: []int32{0, 42, 56, 56, 57, -1, 0, 42, 58, 2147483647}, Validity: []byte{0xfb, 0xff}}
-	found := segwit.DecodeColumn(column, "bc")
+	found := decodedColumn(t, column, "bc")
 	if !bytes.Equal(found.Numbers, []byte{0, 0, 1, 23, 4, 4, 0, 4, 4}) && !bytes.Equal(found.Numbers, []byte{0, 0, 1, 21, 4, 4, 0, 4, 4}) {
 		t.Error(found.Numbers)
 	}
@@ -210,7 +261,7 @@ func TestColumnsOfArrow(t *testing.T) {
 	if text, is := made.Texts.Row(0); !is || string(text) != address {
 		t.Error(string(text))
 	}
-	if again := segwit.DecodeColumn(made.Texts.Slice(1, 7).Slice(0, 2), "bc"); !bytes.Equal(again.Numbers, []byte{0, 1}) {
+	if again := decodedColumn(t, made.Texts.Slice(1, 7).Slice(0, 2), "bc"); !bytes.Equal(again.Numbers, []byte{0, 1}) {
 		t.Error(again)
 	}
 	large := bech32proved.Column{Bytes: data, LargeOffsets: []int64{0, 42, 1 << 62, -1 << 63, 42, 56}}
@@ -222,7 +273,7 @@ func TestColumnsOfArrow(t *testing.T) {
 	if numbers, err = bech32proved.CheckColumn(bech32proved.Bech32, short); err != nil || numbers[7] == 4 || numbers[8] != 4 {
 		t.Error(numbers, err)
 	}
-	if _, is := short.Row(8); is || (bech32proved.Column{}).Len() != 0 || len(segwit.DecodeColumn(bech32proved.Column{}, "").Numbers) != 0 {
+	if _, is := short.Row(8); is || (bech32proved.Column{}).Len() != 0 || len(decodedColumn(t, bech32proved.Column{}, "").Numbers) != 0 {
 		t.Error("a row that is none")
 	}
 	programs := bech32proved.ColumnOf([][]byte{make([]byte, 20), make([]byte, 20), make([]byte, 5000)})
@@ -234,7 +285,7 @@ func TestColumnsOfArrow(t *testing.T) {
 	for at := range many {
 		many[at] = other
 	}
-	all := segwit.DecodeColumn(bech32proved.ColumnOf(many), "bc")
+	all := decodedColumn(t, bech32proved.ColumnOf(many), "bc")
 	if row, is := all.Programs.Row(139999); !is || len(row) != 2 || len(all.Programs.Bytes) != 280000 {
 		t.Error(row, is)
 	}

@@ -100,7 +100,7 @@ const (
 	// NoDescriptorChecksum: the text does not end in `#` and eight characters.
 	NoDescriptorChecksum Number = 88
 
-	// DescriptorTooLong: the text has more than 7500 characters, too many to be mended.
+	// DescriptorTooLong: the text has more than 7500 characters (1400 for two changes), too many to be mended.
 	DescriptorTooLong Number = 89
 
 	// NoMemory: the lent memory did not suffice.

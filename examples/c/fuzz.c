@@ -188,7 +188,7 @@ static const uint32_t of_suggest[] = {2, 11, 12, 13, 14, 15, 21, 22, 23, 91, 92,
 static Function suggest_calls = {"bech32_suggest", 0, {0}, of_suggest};
 
 static const uint32_t of_check_many[] = {4, 0};
-static const uint32_t of_segwit_decode_many[] = {4, 92, 0};
+static const uint32_t of_segwit_decode_many[] = {2, 4, 12, 13, 14, 15, 92, 0};
 static const uint32_t of_segwit_encode_many[] = {4, 92, 0};
 static const uint32_t of_validity_of[] = {92, 0};
 static Function check_many_calls = {"bech32_check_many", 0, {0}, of_check_many};
@@ -880,7 +880,7 @@ static const uint32_t of_codex32_encode[] = {55, 83, 84, 85, 86, 92, 0};
 static const uint32_t of_codex32_encode_payload[] = {21, 22, 55, 83, 84, 85, 86, 92, 0};
 static const uint32_t of_codex32_derive[] = {2, 4, 11, 12, 13, 14, 15, 21, 22, 23, 33, 61, 62, 63, 64,
                                              81, 82, 83, 84, 86, 92, 0};
-static const uint32_t of_codex32_split[] = {55, 65, 66, 83, 84, 85, 92, 0};
+static const uint32_t of_codex32_split[] = {55, 65, 66, 68, 83, 84, 85, 92, 0};
 static const uint32_t of_codex32_recover[] = {2, 4, 11, 12, 13, 14, 15, 21, 22, 23, 33, 61, 62, 63, 64,
                                               81, 82, 83, 84, 87, 92, 0};
 static const uint32_t of_codex32_propose_long[] = {2, 11, 12, 13, 14, 15, 21, 22, 23, 34, 81, 82, 91,
@@ -1277,6 +1277,15 @@ static int is_name(size_t length) {
     return length == sizeof name && !(has_lower && has_upper);
 }
 
+/* Whether random bytes in `drawn` are all equal. */
+static int are_equal(void) {
+    size_t same = 0;
+    while (same < drawn_length && drawn[same] == drawn[0]) {
+        same++;
+    }
+    return same == drawn_length && drawn_length >= 2;
+}
+
 /* What the header says of a secret in `data` and random bytes in `drawn`. */
 static uint32_t split_refusal(uint32_t threshold, size_t name_length, size_t shares) {
     if (threshold == 1 || threshold > 9) {
@@ -1294,7 +1303,10 @@ static uint32_t split_refusal(uint32_t threshold, size_t name_length, size_t sha
     if (shares < threshold || shares > CODEX32_MAX_SPLIT) {
         return CODEX32_BAD_COUNT;
     }
-    return drawn_length == CODEX32_RANDOM_SIZE(threshold, data_length) ? CODEX32_OK : CODEX32_BAD_RANDOM;
+    if (drawn_length != CODEX32_RANDOM_SIZE(threshold, data_length)) {
+        return CODEX32_BAD_RANDOM;
+    }
+    return are_equal() ? CODEX32_EQUAL_RANDOM : CODEX32_OK;
 }
 
 /* The shares are those that the other functions make: by the random characters, and derived. */
@@ -1355,6 +1367,12 @@ static void random_drawn(uint32_t threshold) {
     drawn_length = is_known && percent(95) ? CODEX32_RANDOM_SIZE(threshold, data_length) : below(MOST);
     for (size_t i = 0; i < drawn_length; i++) {
         drawn[i] = (uint8_t)next_number();
+    }
+    /* At times nobody filled them, or all of them but one. */
+    if (drawn_length > 0 && percent(10)) {
+        uint8_t other = drawn[0];
+        memset(drawn, (uint8_t)next_number(), drawn_length);
+        drawn[below(drawn_length)] = percent(50) ? drawn[0] : other;
     }
 }
 
@@ -1645,10 +1663,23 @@ static void try_liquid_decode(void) {
 
 static _Alignas(16) uint8_t liquid_memory[BECH32_LIQUID_NEAREST_MEMORY(BECH32_MAX_LIQUID_TEXT)];
 
+/* Whether so many errors may be looked for: at most three, and twice as many and at most six erasures are seven at most. */
+static int is_liquid_asked(const size_t *erasures, size_t erasures_length, size_t errors) {
+    size_t different = 0;
+    for (size_t i = 0; i < erasures_length; i++) {
+        size_t j = 0;
+        while (j < i && erasures[j] != erasures[i]) {
+            j++;
+        }
+        different += i == j;
+    }
+    return errors <= BECH32_MAX_LIQUID_ERRORS && (different > 6 || 2 * errors + different <= 7);
+}
+
 static void try_liquid_nearest(void) {
     static uint8_t ample[64u * BECH32_MAX_LIQUID_TEXT];
-    size_t erasures[7], all = 0, errors = percent(95) ? below(3) : below(6);
-    size_t erasures_length = errors < 3 ? below(7) : (size_t)percent(10);
+    size_t erasures[9], all = 0, errors = percent(95) ? below(4) : below(6);
+    size_t erasures_length = percent(80) && errors < 4 ? below(8 - 2 * errors) : below(10);
     begin(&liquid_nearest);
     random_liquid_text();
     text_length = text_length > BECH32_MAX_LIQUID_TEXT ? BECH32_MAX_LIQUID_TEXT : text_length;
@@ -1661,6 +1692,7 @@ static void try_liquid_nearest(void) {
     expect(whole.start == liquid_memory && whole.size == BECH32_LIQUID_NEAREST_MEMORY(text_length),
            "the memory was kept");
     expect(expected != BECH32_NO_MEMORY && expected != BECH32_NO_ROOM, "memory or room does not suffice");
+    expect((expected == BECH32_BAD_NUMBER) == !is_liquid_asked(erasures, erasures_length, errors), "how many errors are looked for");
     size_t size = percent(30) ? below(sizeof some_memory) : sizeof some_memory;
     bech32_memory memory = {some_memory + (sizeof some_memory - size) / 16 * 16, size};
     FORBID(some_memory, sizeof some_memory);
@@ -2271,13 +2303,17 @@ static size_t item_room(size_t items) {
 }
 
 static void try_segwit_decode_many(void) {
-    static const char *const wanted[] = {"", "bc", "TB", "a", "x"};
+    static const char *const wanted[] = {"", "bc", "TB", "a", "x", "\xff", "", "b\xc3\xa9", " bc", "Bc"};
+    static const uint32_t faults[] = {0, 0, 0, 0, 0, 2, 12, 13, 14, 15};
     Decoded row;
     size_t put = 0, done = 0;
     int is_put = 1;
     begin(&segwit_decode_many_calls);
     random_column(0);
-    const char *one = wanted[below(5)];
+    size_t which = below(percent(20) ? 10 : 5);
+    char longest[BECH32_MAX_HRP + 2] = {0};
+    memset(longest, 'q', BECH32_MAX_HRP + 1);
+    const char *one = faults[which] == BECH32_HRP_TOO_LONG ? longest : wanted[which];
     size_t hrp_length = strlen(one);
     place(&identifier_area, one, hrp_length, 1);
     place(&versions_area, NULL, item_room(column_count), 1);
@@ -2294,7 +2330,9 @@ static void try_segwit_decode_many(void) {
     if (!has_rows()) {
         expect(number == BECH32_BAD_NUMBER, "the answer without such rows");
     }
-    for (; has_rows() && is_put && done < column_count; done += (size_t)is_put) {
+    int is_told = has_rows() && faults[which] == 0;
+    expect(is_told || !has_rows() || number == faults[which], "the answer for a part that is none");
+    for (; is_told && is_put && done < column_count; done += (size_t)is_put) {
         memcpy(part, one, part_length = hrp_length);
         decode_one(done, &row);
         size_t length = places > 0 ? row.length : 0;
@@ -2311,7 +2349,6 @@ static void try_segwit_decode_many(void) {
             expect(places == 0 || place_in(done + 1) == (int32_t)put, "another offset");
         }
     }
-    int is_told = has_rows();
     expect(!is_told || number == (done == column_count ? BECH32_OK : BECH32_NO_ROOM), "the answer");
     expect(!is_told || places == 0 || place_in(0) == 0, "the first offset");
     expect_kept(&identifier_area, 0, "the human-readable part changed");

@@ -68,14 +68,19 @@ static int fail(const char *what, uint32_t number) {
     return 0;
 }
 
-/* Makes a secret and its shares. If you have a secret, put it there in place of random bytes. */
+/* Makes a secret and its shares. If you have a secret, put it there in place of random bytes. The identifier is drawn
+ * too: each split needs a new one. */
 static int share(Shared *shared) {
-    static const uint8_t identifier[] = {'c', 'a', 's', 'h'};
-    uint8_t random[CODEX32_RANDOM_SIZE(THRESHOLD, SIZE)];
+    static const char alphabet[] = "qpzry9x8gf2tvdw0s3jn54khce6mua7l";
+    uint8_t identifier[CODEX32_IDENTIFIER_LENGTH], random[CODEX32_RANDOM_SIZE(THRESHOLD, SIZE)];
     size_t length;
-    if (!fill_random(shared->secret, sizeof shared->secret) || !fill_random(random, sizeof random)) {
+    if (!fill_random(shared->secret, sizeof shared->secret) || !fill_random(identifier, sizeof identifier) ||
+        !fill_random(random, sizeof random)) {
         fprintf(stderr, "the operating system gives no random bytes: no shares are made\n");
         return 0;
+    }
+    for (size_t i = 0; i < sizeof identifier; i++) {
+        identifier[i] = (uint8_t)alphabet[identifier[i] & 31];
     }
     uint32_t number = codex32_split(THRESHOLD, identifier, sizeof identifier, shared->secret,
                                     sizeof shared->secret, random, sizeof random, COUNT, shared->texts,

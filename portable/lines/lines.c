@@ -27,13 +27,14 @@ static const Command no_commands[] = {{NULL, 0, 0, NULL}};
 
 typedef struct {
     const char *name, *no_memory;
+    size_t longest_line;
     const Command *commands, *rest_commands;
 } Program;
 
 static const Program programs[] = {
-    {"b32", "no memory", b32_commands, no_commands},
-    {"c32", "out of memory", c32_commands, no_commands},
-    {"mend", "out of memory", mend_commands, mend_rest_commands},
+    {"b32", "no memory", B32_LINE_LIMIT, b32_commands, no_commands},
+    {"c32", "out of memory", LINE_LIMIT, c32_commands, no_commands},
+    {"mend", "out of memory", LINE_LIMIT, mend_commands, mend_rest_commands},
 };
 
 /* The length of the character that bytes begin with, in UTF-8, or 0 where there is none. */
@@ -106,7 +107,7 @@ static uint32_t answer_rest(const Command *commands, const uint8_t *line, size_t
 /* Puts the answer to a line, or returns the number of the refusal. */
 static uint32_t answer(const Program *program, const uint8_t *line, size_t length, Out *out) {
     Word word[MOST_WORDS];
-    if (length > LINE_LIMIT) {
+    if (length > program->longest_line) {
         return LINE_TOO_LONG;
     }
     if (!is_utf8(line, length)) {
@@ -160,7 +161,7 @@ static int reply(const Program *program, const uint8_t *line, size_t length, Out
     return 1;
 }
 
-/* What is kept of a line that has not ended: one byte more than it may have shows that it is too long. */
+/* What is kept of a line that has not ended: one byte more than it may have in any program shows that it is too long. */
 typedef struct {
     uint8_t bytes[LINE_LIMIT + 1];
     size_t length;

@@ -5,8 +5,10 @@
 #include <stddef.h>
 #include <stdint.h>
 
-/* A line has this many bytes at most, and so has a word of it. Words are not empty, and one space stands between two. */
+/* A line has this many bytes at most, of b32 fewer, and so has a word of it. Words are not empty, and one space stands
+ * between two. */
 #define LINE_LIMIT 16384u
+#define B32_LINE_LIMIT 4096u
 #define MOST_WORDS (LINE_LIMIT / 2u)
 
 /* What a word holds at most: two digits for a byte, and at least a digit and a comma for a location. */

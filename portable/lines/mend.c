@@ -4,8 +4,11 @@
 #include "bech32.h"
 #include "lines.h"
 
-/* No call is lent more. bech32.h says what a text can need: 860 megabytes at its longest. */
-#define MOST_MEMORY ((size_t)1 << 30)
+/* No call is lent more: 16 MiB. A text can need 860 megabytes (bech32.h): its search ends in 91. */
+#define MOST_MEMORY ((size_t)1 << 24)
+
+/* Of more near texts than this, as many are put, the first, and that there are more. */
+#define MOST_TEXTS 1000u
 
 /* Memory that is lent, of which the first 15 bytes at most are left out, since it begins at a multiple of 16. */
 typedef struct {
@@ -81,7 +84,7 @@ static uint32_t search(Search *it, uint32_t (*once)(Search *, bech32_memory *)) 
         if (number == BECH32_NO_ROOM) {
             it->room = it->count;
         } else if (is_spent) {
-            it->memory *= 2;
+            it->memory = it->memory < MOST_MEMORY / 2 ? 2 * it->memory : MOST_MEMORY;
         } else {
             return number;
         }
@@ -136,10 +139,16 @@ static uint32_t nearest(const Words *words, Out *out) {
     if (!read_number(words->word[words->count - 1], BECH32_MAX_ERRORS, &it.errors)) {
         return BAD_WORD;
     }
-    it.memory = BECH32_NEAREST_FEW_MEMORY(measure(it.text));
-    it.room = BECH32_NEAREST_FEW_TEXTS(measure(it.text));
-    uint32_t number = search(&it, nearest_once);
-    if (number == BECH32_OK) {
+    it.room = MOST_TEXTS;
+    Lent lent;
+    uint32_t number = lend(&lent, MOST_MEMORY) ? nearest_once(&it, &lent.memory) : OUT_OF_MEMORY;
+    take_back(&lent);
+    if (number == BECH32_NO_ROOM) {
+        it.count = MOST_TEXTS;
+        put_texts(out, &it);
+        put_text(out, " more");
+        number = BECH32_OK;
+    } else if (number == BECH32_OK) {
         put_texts(out, &it);
     }
     drop_results(&it);

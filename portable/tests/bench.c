@@ -93,6 +93,17 @@ static uint32_t propose_long(void) {
     return codex32_propose_long(text, text_length, &memory, out, 127, &length);
 }
 
+static uint32_t recover(void) {
+    return codex32_recover(set, set_length, lengths, set_count, other, sizeof other, &length);
+}
+
+static uint8_t drawn[CODEX32_RANDOM_SIZE(2, 16)], dealt[3 * 127];
+
+static uint32_t split(void) {
+    return codex32_split(2, (const uint8_t *)"test", 4, bytes, bytes_length, drawn, sizeof drawn, 3, dealt, sizeof dealt,
+                         &length);
+}
+
 /* As many strings as their threshold, of this many bytes. */
 static void of_set(uint32_t threshold, size_t size) {
     static const uint8_t letters[] = "acdefghjk";
@@ -163,6 +174,8 @@ static const struct {
     {"codex32_derive, two of 16 bytes", derive},
     {"codex32_derive, nine of 64 bytes", derive},
     {"codex32_propose_long, four wrong", propose_long},
+    {"codex32_recover, two of 16 bytes", recover},
+    {"codex32_split, 16 bytes into three", split},
 };
 #define ROWS (int)(sizeof rows / sizeof *rows)
 
@@ -192,7 +205,13 @@ static void prepare(int row) {
     case 18: bytes_length = 16; break;
     case 19: of_set(2, 16); break;
     case 20: of_set(9, 64); break;
-    default: of_text(LONG_STRING, 0), text[15] = text[16] = text[46] = '?', text[23] = 'q';
+    case 21: of_text(LONG_STRING, 0), text[15] = text[16] = text[46] = '?', text[23] = 'q'; break;
+    case 22: of_set(2, 16); break;
+    default:
+        bytes_length = 16;
+        for (size_t i = 0; i < sizeof drawn; i++) {
+            drawn[i] = (uint8_t)(i * 29 + 7);
+        }
     }
 }
 

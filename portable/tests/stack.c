@@ -364,7 +364,8 @@ static uint32_t try_check_many(unsigned n) {
 
 static uint32_t try_segwit_decode_many(unsigned n) {
     bech32_column column = damaged_column(n);
-    return bech32_segwit_decode_many(&column, n % 2, (const u8 *)"bc", n % 3, other, 2 - n % 2, other + 2, 2, other + 4, 2,
+    const char *wanted = n % 13 ? "bc" : "b\xff";
+    return bech32_segwit_decode_many(&column, n % 2, (const u8 *)wanted, n % 3, other, 2 - n % 2, other + 2, 2, other + 4, 2,
                                      places, n % 7 ? 3 : 0, out, n % 9 ? sizeof out : 20, &length);
 }
 

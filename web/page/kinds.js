@@ -23,10 +23,13 @@ export const checksumsOf = ({ checksum: only }) => CHECKSUMS.filter(([checksum])
 // The programs of witness versions that are in use, with their sizes in bytes.
 const PROGRAMS = [[0, 20], [0, 32], [1, 32]];
 
-const isText = { isAddress: false, isBroken: false, facts: [] };
+const isText = { isAddress: false, isBroken: false, isOfferable: true, facts: [] };
+
+// An output of another form has no rule for spending, and anyone may take it: no such address is offered.
+const isForm = ({ version, program }) => PROGRAMS.some(([of, size]) => of === version && size === program.length);
 
 const addressKind = (known, { hrp, version, program }) => ({
-  isAddress: true, isBroken: false, known,
+  isAddress: true, isBroken: false, isOfferable: isForm({ version, program }), known,
   said: [known ? VALID.network(known.network) : VALID.otherNetwork(hrp), ...(known ? VALID.pays(version, program.length) : [])],
   facts: [{ name: VALID.program(version, program.length), text: hex(program) }],
 });
@@ -46,7 +49,7 @@ const whyNone = ({ checksum, sizes, isExact }, { hrp, data }, name) => {
 
 const brokenAddress = (known, { code, message }, name) => {
   const other = VALID.otherChecksum(name === 'Bech32' ? 'Bech32m' : 'Bech32');
-  return { isAddress: false, isBroken: true, known, said: [], facts: [], why: code === 'WRONG_CHECKSUM' ? other : message };
+  return { isAddress: false, isBroken: true, isOfferable: false, known, said: [], facts: [], why: code === 'WRONG_CHECKSUM' ? other : message };
 };
 
 /**
@@ -61,7 +64,7 @@ export const kindOf = (library, text, parts, name) => {
   if (!known) return { ...isText, known, said: [VALID.unknown(parts.hrp, parts.data.length)] };
   if (known.network) return brokenAddress(known, refused, name);
   const why = whyNone(known, parts, name);
-  if (why) return { ...isText, isBroken: true, known, said: [], why };
+  if (why) return { ...isText, isBroken: true, isOfferable: false, known, said: [], why };
   const upper = known.isUpper && text !== text.toUpperCase() ? [VALID.upper] : [];
   return { ...isText, known, said: [...upper, known.isInvoice ? VALID.invoice : VALID.alone] };
 };

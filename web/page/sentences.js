@@ -345,7 +345,8 @@ export const SPLIT = {
   ownHelp: 'These are its 16 or 32 bytes: the seed that a wallet makes its keys from (BIP-32). Seed words are not read here.',
   threshold: 'Shares needed to recover it', count: 'Shares in all',
   identifier: 'Identifier',
-  identifierHelp: 'Four letters or digits, but not 1, b, i or o, to tell this secret from others. Left empty, it is drawn at random.',
+  identifierHelp: 'Left empty, it is drawn at random, which is best: each split needs a new one. '
+    + 'Otherwise four letters or digits, but not 1, b, i or o.',
   make: 'Make the shares', makeOthers: 'Make other shares in place of these',
   // What is wrong with the fields.
   empty: 'Type your secret first.',
@@ -365,7 +366,8 @@ export const SPLIT = {
   tried: 'All of them together were tried, and gave the secret back.',
   shown: `To see the new secret, put shares in ${PAPER}. That also tests what is on it.`,
   test: `To test the paper, put shares in ${PAPER}.`,
-  apart: 'Shares of two splits do not go together, even where the secret is the same.',
+  apart: 'Shares of two splits do not go together, even if the secret is the same. '
+    + 'If both have the same identifier, they recover another secret without a warning.',
   seen: 'Show a share only where nobody else and no camera sees the screen.',
   printed: 'Printing makes copies: the print queue of this computer and the memory of the printer may keep them. '
     + 'Use a printer on a cable that has no network, do not print to a file, or copy the shares by hand.',

@@ -1,7 +1,7 @@
 // The functions of include/bech32.h and include/codex32.h: each returns `{ number }`, where the number is that of a
 // refusal, or 0 and with it what the function wrote.
-import { Instance } from './instance.js';
-import { LIST_REGIONS, SUGGEST_REGIONS, liquidNearestOf, listed, listedBeside, nearEditsOf, nearestOf, suggestionsOf } from './lists.js';
+import { Instance, runner } from './instance.js';
+import { LIST_REGIONS, SUGGEST_REGIONS, liquidNearestOf, listed, nearEditsOf, nearestOf, suggestionsOf } from './lists.js';
 import { ALPHABET } from './reasons.js';
 
 /** The numbers of the checksums by which texts are mended, and of all. */
@@ -68,7 +68,7 @@ const erasuresOf = (given) => [...new Set(given)].slice(0, MAX_TEXT);
 
 /** The calls of the module of `bech32_c`. */
 export const bech32Calls = (module) => {
-  const it = new Instance(module, BECH32_REGIONS);
+  const it = new Instance(module, BECH32_REGIONS), run = runner(module);
   const p = (region) => it.pointer(region);
   const textOut = () => it.text('out', it.size('outLength'));
 
@@ -127,11 +127,11 @@ export const bech32Calls = (module) => {
     },
     nearest(checksum, text, erasures, errors) {
       if (!it.putText('text', text).isWhole) return { number: TEXT_TOO_LONG };
-      return listed(module, it, BECH32_REGIONS, nearestOf(checksum, text, erasuresOf(erasures), errors));
+      return listed(run, it, BECH32_REGIONS, nearestOf(checksum, text, erasuresOf(erasures), errors));
     },
     nearEdits(checksum, text) {
       if (!it.putText('text', text).isWhole) return { number: TEXT_TOO_LONG };
-      return listed(module, it, BECH32_REGIONS, nearEditsOf(checksum, text));
+      return listed(run, it, BECH32_REGIONS, nearEditsOf(checksum, text));
     },
     /** A text that is the only one of what it is decoded to: its human-readable part and its bytes. */
     decodeStrict(checksum, text) {
@@ -175,11 +175,12 @@ export const bech32Calls = (module) => {
     },
     liquidNearest(text, erasures, errors) {
       if (!it.putText('text', text).isWhole) return { number: TEXT_TOO_LONG };
-      return listed(module, it, BECH32_REGIONS, liquidNearestOf(text, erasuresOf(erasures), errors));
+      return listed(run, it, BECH32_REGIONS, liquidNearestOf(text, erasuresOf(erasures), errors));
     },
     suggest(text, hrp) {
       if (!it.putText('text', text).isWhole) return { number: 0, found: [] };
-      return listedBeside(module, SUGGEST_REGIONS, suggestionsOf(text, hrp));
+      const list = suggestionsOf(text, hrp);
+      return run(SUGGEST_REGIONS, (other) => list(other, SUGGEST_REGIONS));
     },
     wipe: () => it.wipe(),
   };

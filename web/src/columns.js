@@ -326,8 +326,11 @@ const versionsOf = (given, count) => {
   return Uint8Array.from(versions);
 };
 
-/** The calls for columns of the module of `bech32_c`, which has an instance for them from the first call on. */
-export const columnFunctions = (module) => {
+/**
+ * The calls for columns of the module of `bech32_c`, which has an instance for them from the first call on. `testPart` throws
+ * for what is no human-readable part.
+ */
+export const columnFunctions = (module, testPart = () => {}) => {
   let running = null;
   const instance = () => (running ??= new Instance(module, REGIONS));
 
@@ -357,6 +360,7 @@ export const columnFunctions = (module) => {
     decodeMany(texts, hrp = null) {
       if (hrp !== null && typeof hrp !== 'string') throw new TypeError('the human-readable part is no string');
       if (hrp === '') throw new RangeError('no address has an empty human-readable part');
+      if (hrp !== null) testPart(hrp);
       const column = columnOf(texts, putTexts), it = instance(), part = it.putText('hrp', hrp ?? '').length;
       const [numbers, versions, hrpLengths] = Array.from({ length: 3 }, () => new Uint8Array(column.count));
       const programs = gathering(column.count, false);

@@ -1,11 +1,11 @@
-// The calls of bech32_c on descriptors. One may hold private keys, and may be long: each call has an instance of its own, of
-// which nothing is left.
-import { Instance } from './instance.js';
+// The calls of bech32_c on descriptors. One may hold private keys, and may be long: they have an instance of their own, of which
+// nothing is left after each call.
+import { runner } from './instance.js';
 
 const SIZE = 8, CHECKSUM = 8, NO_MEMORY = 91, NO_ROOM = 92;
 
-/** A longer one is not mended. */
-export const MAX_DESCRIPTOR = 7500;
+/** Longer ones are not mended, by one mistake, and by two changed characters. */
+export const MAX_DESCRIPTOR = 7500, MAX_DESCRIPTOR_TWO = 1400;
 
 // Room for this many texts, and memory, which suffices for most. Where they do not, the room that the call tells is made, or this
 // many times as much memory, up to the most.
@@ -17,15 +17,6 @@ const KINDS = [null, ['swapped', 0], ['leftOut', -1], ['putIn', 1], ['changed', 
 
 // A character that is not ASCII is one that no descriptor has.
 const octetsOf = (text) => Uint8Array.from(Array.from(text), (it) => (it < '\u0080' ? it.charCodeAt(0) : 0x7f));
-
-const withInstance = (module, regions, call) => {
-  const it = new Instance(module, regions);
-  try {
-    return call(it);
-  } finally {
-    it.wipe();
-  }
-};
 
 const mendedIn = (it, octets, changed, { lent, kinds, places, near }) => {
   const p = (region) => it.pointer(region), length = it.putBytes('text', octets);
@@ -55,20 +46,19 @@ const mendedByTwoIn = (it, octets, { lent, places, near }) => {
 };
 
 // What a call answers with as much room as it needs: `grown` makes that for a number of texts.
-const withRoom = (module, first, grown, call) => {
+const withRoom = (run, first, grown, call) => {
   for (let regions = first; ;) {
-    const sizes = regions, answer = withInstance(module, sizes, (it) => call(it, sizes));
+    const sizes = regions, answer = run(sizes, (it) => call(it, sizes));
     if (![NO_MEMORY, NO_ROOM].includes(answer.number)) return answer;
     regions = { ...sizes, ...(answer.number === NO_MEMORY ? { lent: MORE * sizes.lent } : grown(answer.count)) };
     if (Object.values(regions).some((it) => it > MOST)) return answer;
   }
 };
 
-/** The calls on descriptors of the module of `bech32_c`. Places are those of characters. */
-export const descriptorCalls = (module) => ({
+const callsBy = (run) => ({
   checksum(text) {
     const octets = octetsOf(text), regions = { text: octets.length, out: CHECKSUM, outLength: SIZE, place: SIZE };
-    return withInstance(module, regions, (it) => {
+    return run(regions, (it) => {
       const p = (region) => it.pointer(region), length = it.putBytes('text', octets);
       const number = it.call('bech32_descriptor_checksum', p('text'), length, p('out'), BigInt(CHECKSUM), p('outLength'), p('place'));
       return number ? { number, place: it.size('place') } : { number, checksum: it.text('out', it.size('outLength')) };
@@ -76,7 +66,7 @@ export const descriptorCalls = (module) => ({
   },
   check(text) {
     const octets = octetsOf(text);
-    return withInstance(module, { text: octets.length, place: SIZE }, (it) => {
+    return run({ text: octets.length, place: SIZE }, (it) => {
       const p = (region) => it.pointer(region), length = it.putBytes('text', octets);
       return { number: it.call('bech32_descriptor_check', p('text'), length, p('place')), place: it.size('place') };
     });
@@ -86,13 +76,16 @@ export const descriptorCalls = (module) => ({
     const grown = (count) => ({ kinds: count, places: 2 * SIZE * count, near: count * size });
     const lent = MEMORY + OF_A_CHARACTER * Math.min(size, MAX_DESCRIPTOR);
     const regions = { text: octets.length, memory: 2 * SIZE, lent, count: SIZE, ...grown(TEXTS) };
-    return withRoom(module, regions, grown, (it, sizes) => mendedIn(it, octets, changed, sizes));
+    return withRoom(run, regions, grown, (it, sizes) => mendedIn(it, octets, changed, sizes));
   },
   mendTwo(text) {
     const octets = octetsOf(text), size = octets.length;
     const grown = (count) => ({ places: 2 * SIZE * count, near: count * size });
-    const lent = TWO_MEMORY + TWO_OF_A_CHARACTER * Math.min(size, MAX_DESCRIPTOR);
+    const lent = TWO_MEMORY + TWO_OF_A_CHARACTER * Math.min(size, MAX_DESCRIPTOR_TWO);
     const regions = { text: size, memory: 2 * SIZE, lent, count: SIZE, ...grown(TEXTS) };
-    return withRoom(module, regions, grown, (it, sizes) => mendedByTwoIn(it, octets, sizes));
+    return withRoom(run, regions, grown, (it, sizes) => mendedByTwoIn(it, octets, sizes));
   },
 });
+
+/** The calls on descriptors of the module of `bech32_c`. Places are those of characters. */
+export const descriptorCalls = (module) => callsBy(runner(module));

@@ -15,9 +15,9 @@ export type Code =
   | 'ADDRESS_TOO_LONG' | 'NO_DATA' | 'BAD_VERSION' | 'PADDING_TOO_LONG' | 'PADDING_NOT_ZERO' | 'PROGRAM_TOO_SHORT'
   | 'PROGRAM_TOO_LONG' | 'PROGRAM_NOT_V0' | 'OTHER_HRP' | 'ENCODED_TOO_LONG' | 'ENCODED_BAD_VERSION'
   | 'ENCODED_ADDRESS_TOO_LONG' | 'BAD_SIZE' | 'TOO_FEW_SHARES' | 'OTHER_SET' | 'INDEX_TWICE' | 'CONTRADICTION'
-  | 'BAD_COUNT' | 'BAD_RANDOM' | 'BAD_ELEMENT' | 'UNSUPPORTED_VERSION' | 'NO_BLINDING_KEY' | 'NOT_IN_DESCRIPTOR'
-  | 'NOT_MS' | 'BAD_LENGTH' | 'BAD_THRESHOLD' | 'BAD_SHARE_INDEX' | 'BAD_IDENTIFIER' | 'NO_SHARE_INDEX'
-  | 'BITS_LEFT_OVER' | 'NO_DESCRIPTOR_CHECKSUM' | 'DESCRIPTOR_TOO_LONG';
+  | 'BAD_COUNT' | 'BAD_RANDOM' | 'BAD_ELEMENT' | 'EQUAL_RANDOM' | 'UNSUPPORTED_VERSION' | 'NO_BLINDING_KEY'
+  | 'NOT_IN_DESCRIPTOR' | 'NOT_MS' | 'BAD_LENGTH' | 'BAD_THRESHOLD' | 'BAD_SHARE_INDEX' | 'BAD_IDENTIFIER'
+  | 'NO_SHARE_INDEX' | 'BITS_LEFT_OVER' | 'NO_DESCRIPTOR_CHECKSUM' | 'DESCRIPTOR_TOO_LONG';
 
 /** A refusal. Its `message` is a sentence with the figures and the character at fault. */
 export class Refused extends Error {
@@ -94,9 +94,9 @@ export function correct(checksum: Checksum, text: string, places?: Iterable<numb
  * All texts that the checksum accepts and that differ from this one in at most `errors` characters of the data part (0 to
  * 2; 2 where it is left out) beside those that are known to be wrong, as of `correct`; a right text is the first of its own.
  * Texts of at most 89 characters with two wrong ones and none known have one at most, the right one. No list where more than
- * three are known to be wrong. In the library, two errors and three places take 0.4 ms at 90 characters and 55 ms at 1,000,
- * where 14,500 texts are near; texts that fill more than 16 KB are searched for twice. Throws `Refused`, and `RangeError` where
- * 256 MB do not suffice.
+ * three are known to be wrong. In the library, two errors and three places take 0.5 ms at 90 characters and 7 ms at 400,
+ * where 2,300 texts are near; texts that fill more than 16 KB are searched for twice. Throws `Refused`, and `RangeError` where
+ * 16 MB do not suffice, as for some 10,000 texts.
  */
 export function nearest(
   checksum: Checksum, text: string, places?: Iterable<number>, errors?: 0 | 1 | 2,
@@ -122,7 +122,7 @@ export interface NearEdit { readonly text: string; readonly edit: Edit }
  * that with the fewest characters behind it. Of a run of the same the last character is left out, and one is put in behind
  * it. By Bech32 a text that ends in `p` is accepted with any number of `q` before that as well: where the text that is found
  * ends in `p`, an edit of its last two characters says little. The text may have any number of characters behind its
- * separator. Throws `Refused`, and `RangeError` where 256 MB do not suffice.
+ * separator. Throws `Refused`, and `RangeError` where 16 MB do not suffice.
  */
 export function nearEdits(checksum: Checksum, text: string): readonly NearEdit[];
 
@@ -177,8 +177,9 @@ export const segwit: {
    * Did you mean? The addresses of the network of a human-readable part that someone may have meant who typed a text, in which
    * each `?` is a character that cannot be read. Tried are the texts with up to two other characters, as many as are unlikely to
    * be right by chance beside what cannot be read, and if there is no `?`, those that one edit makes. Of texts that are no
-   * mistyped addresses, at most one in 100 gets an answer. It is a guess: show it, and let people compare it with the source
-   * before it is paid to. Throws `Refused`.
+   * mistyped addresses, at most one in 100 gets an answer. They are of forms in use (version 0 with 20 or 32 bytes, version 1
+   * with 32), but for the text itself, which is listed if it is an address of the network. It is a guess: show it, and let people
+   * compare it with the source before it is paid to. Throws `Refused`.
    */
   suggest(text: string, hrp: string): readonly Suggestion[];
   /** The address of a witness version, from 0 to 16, and a program. Throws `Refused`. */
@@ -191,7 +192,7 @@ export const segwit: {
   /**
    * Decodes a column of addresses: of each row its number, as of `checkMany`, its witness version, the length of the human-readable
    * part, with which it begins, and its program. Name the human-readable part of your network: another address then has the number
-   * OTHER_HRP. Where it is null any is accepted, and yours to compare.
+   * OTHER_HRP. Where it is null any is accepted, and yours to compare. Throws `Refused` for a human-readable part that is none.
    */
   decodeMany(texts: Iterable<string | null | undefined> | Column, hrp?: string | null): {
     numbers: Uint8Array; versions: Uint8Array; hrpLengths: Uint8Array; programs: Rows<Uint8Array>;
@@ -236,8 +237,9 @@ export const descriptor: {
   mend(text: string, changed?: 0 | 1): readonly MendedDescriptor[];
   /**
    * The texts with a right checksum that come from this one by two of its characters changed, in the order of their second
-   * places. Try `mend` first, which takes a tenth of the time and of the memory. Throws `Refused`, and `RangeError` where 256 MB
-   * do not suffice.
+   * places. Try `mend` first: where two characters are wrong, it takes about a 15th of the time at 30 characters and a 150th at
+   * 1,400, and less memory. A text has at most 1,400 characters, so that of 100 that are no mistyped descriptors at most one is
+   * expected to be answered with any. Throws `Refused`, and `RangeError` where 256 MB do not suffice.
    */
   mendTwo(text: string): readonly MendedDescriptor[];
 };
@@ -260,9 +262,11 @@ export const liquid: {
    */
   correct(text: string, places?: Iterable<number>): Correction | null;
   /**
-   * All texts that Blech32 accepts and that differ from this one in at most `errors` characters of the data part (0 to 3; 3
-   * where it is left out) beside those that are known to be wrong, of which there may be six. Three errors beside three of
-   * these or more take seconds. Throws `Refused`, and `RangeError` where 256 MB do not suffice.
+   * All texts that Blech32 accepts and that differ from this one in at most `errors` characters of the data part, 0 to 3,
+   * beside those that are known to be wrong, of which there may be six. Twice `errors`, with their number, may be at most
+   * seven. Where it is at most six, there is one text at most: so many are looked for where `errors` is left out, 3 beside
+   * none that are known to be wrong, 2 beside one or two, 1 beside three or four, and none beside five or six. Throws
+   * `Refused`, and `RangeError` of more errors.
    */
   nearest(text: string, places?: Iterable<number>, errors?: 0 | 1 | 2 | 3): readonly Correction[];
 };
@@ -291,8 +295,10 @@ export const codex32: {
    * `acdefghjklmnpqrtuvwxyz023456789`. The characters of those before the `threshold`-th are the lowest five bits of random
    * bytes of `crypto.getRandomValues`, and the others are derived from these and the secret's own string; where that has no
    * random bytes, what it throws is thrown, and there is no share. The identifier, four characters of the alphabet, is the
-   * same in all shares, and tells them from those of another secret: it is drawn at random where it is left out or null,
-   * which the standard leaves free. Throws `Refused`.
+   * same in all shares: it is drawn at random if it is left out or null, which the standard leaves free. Give each split a
+   * new one. Shares of two splits of one secret with the same identifier are taken for one set, and as many of them as the
+   * threshold recover other bytes, without an error. To get more shares later, derive them from enough shares (`derive`).
+   * Throws `Refused`.
    */
   split(
     secret: Uint8Array, threshold: number, count: number, identifier?: string | null, options?: HowString,

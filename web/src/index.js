@@ -5,7 +5,7 @@ import { compiled } from './modules.js';
 import { ALPHABET } from './reasons.js';
 
 const { modules, isLowered } = compiled();
-const it = library(...modules), { checkMany, ...ofAddresses } = columnFunctions(modules[0]);
+const it = library(...modules), { checkMany, ...ofAddresses } = columnFunctions(modules[0], it.testPart);
 
 export const { encode, decode, check, correct, nearest, nearEdits, codex32 } = it;
 export const segwit = { ...it.segwit, ...ofAddresses };

@@ -52,18 +52,28 @@ export class Instance {
 
   #start() {
     this.#exports = new WebAssembly.Instance(this.#module, {}).exports;
-    const { memory, __heap_base: base } = this.#exports;
-    const own = aligned(Number(base.value));
-    let end = own;
-    this.at = {};
-    for (const [name, size] of Object.entries(this.#sizes)) {
-      this.at[name] = end;
+    this.lay(this.#sizes);
+    this.#constants = constantsOf(this.bytes, this.#own());
+  }
+
+  // Where the module's own memory ends.
+  #own() {
+    return aligned(Number(this.#exports.__heap_base.value));
+  }
+
+  /** Cuts the memory into regions of these sizes in place of those before, and enlarges it where they need more. */
+  lay(sizes) {
+    const { memory } = this.#exports, at = {};
+    let end = this.#own();
+    for (const [name, size] of Object.entries(sizes)) {
+      at[name] = end;
       end = aligned(end + size);
     }
     enlarge(memory, end);
+    this.#sizes = sizes;
+    this.at = at;
     this.bytes = new Uint8Array(memory.buffer);
     this.view = new DataView(memory.buffer);
-    this.#constants = constantsOf(this.bytes, own);
   }
 
   /** How many arguments a function takes; undefined where the module has no function of that name. */
@@ -149,3 +159,26 @@ export class Instance {
     return String.fromCharCode(...this.bytes.subarray(at, at + length));
   }
 }
+
+// An instance whose memory has grown beyond this is not kept: to wipe it would take as long as to start another.
+const MOST_KEPT = 1 << 23;
+
+/**
+ * Makes what runs a call in an instance with regions of these sizes, of which nothing is left after the call: its memory is
+ * then as it was when the module started. One instance serves all calls of a module, since it takes longer to start one than
+ * to call most functions.
+ */
+export const runner = (module) => {
+  let kept = null;
+  return (sizes, call) => {
+    const it = kept ?? new Instance(module, sizes);
+    kept = null;
+    it.lay(sizes);
+    try {
+      return call(it);
+    } finally {
+      it.wipe();
+      if (it.bytes.length <= MOST_KEPT) kept = it;
+    }
+  };
+};

@@ -135,11 +135,17 @@ const suggestionOf = (given, { text: found, kind, place }) => {
   return { text: after, changes: [], edit: { kind, place, characters } };
 };
 
+// Tests a human-readable part: one that is none is refused.
+const partTest = (calls, reasons) => (hrp) => {
+  const none = new Uint8Array();
+  accepted(calls.encode(CHECKSUMS.bech32, text(hrp, 'the human-readable part'), none), (n) => reasons.encoding(n, hrp, none));
+};
+
 const segwitCalls = (calls, reasons) => ({
   suggest(given, hrp) {
     text(given);
     // The human-readable part is told first.
-    accepted(calls.encode(CHECKSUMS.bech32, text(hrp, 'the human-readable part'), new Uint8Array()), (n) => reasons.encoding(n, hrp, new Uint8Array()));
+    partTest(calls, reasons)(hrp);
     const { found } = accepted(calls.suggest(given, hrp), (n) => reasons.text(n, asRead(given)));
     return found.map((it) => suggestionOf(given, it));
   },
@@ -179,6 +185,12 @@ const correctedAsRead = (given, found, { front, unread, known }) => {
 // A confidential address is mended if twice the number of wrong characters, plus those known to be wrong, is at most this.
 const LIQUID_BOUND = 6, LIQUID_KEY = 33;
 
+// What twice the errors, with the number of characters that are known to be wrong, may be at most.
+const LIQUID_MOST = 7;
+
+// How many errors one correction has beside so many that are known to be wrong.
+const errorsBeside = (known) => Math.floor(Math.max(LIQUID_BOUND - known, 0) / 2);
+
 const versionOf = (version) => {
   if (!Number.isInteger(version) || version < 0 || version > 31) throw new RangeError('the version is no integer from 0 to 31');
   return version;
@@ -196,17 +208,20 @@ const liquidCalls = (calls, reasons) => ({
     return { hrp, version, key, program };
   },
   correct(given, places = []) {
-    const { read, erasures, known } = typedOf(given, places), errors = Math.floor(Math.max(LIQUID_BOUND - known.length, 0) / 2);
-    const answer = calls.liquidNearest(read, erasures, errors);
+    const { read, erasures, known } = typedOf(given, places);
+    const answer = calls.liquidNearest(read, erasures, errorsBeside(known.length));
     listable(answer, (n) => reasons.liquid(n, read));
     // Beyond the bound none is the correction, but the faults of the text are told first.
     const [found] = known.length > LIQUID_BOUND ? [] : answer.texts;
     return found === undefined ? null : correctionOf(given, found, known);
   },
-  nearest(given, places = [], errors = 3) {
-    const { read, erasures, known } = typedOf(given, places);
-    if (![0, 1, 2, 3].includes(errors)) throw new RangeError('the number of errors is none of 0, 1, 2 and 3');
-    const answer = calls.liquidNearest(read, erasures, errors);
+  nearest(given, places = [], errors = undefined) {
+    const { read, erasures, known } = typedOf(given, places), wrong = errors ?? errorsBeside(known.length);
+    if (![0, 1, 2, 3].includes(wrong)) throw new RangeError('the number of errors is none of 0, 1, 2 and 3');
+    if (known.length <= LIQUID_BOUND && 2 * wrong + known.length > LIQUID_MOST) {
+      throw new RangeError(`beside ${known.length} that are known to be wrong there are at most ${LIQUID_MOST - known.length >> 1} errors`);
+    }
+    const answer = calls.liquidNearest(read, erasures, wrong);
     listable(answer, (n) => reasons.liquid(n, read));
     return answer.texts.map((it) => correctionOf(given, it, known));
   },
@@ -378,6 +393,7 @@ export const library = (bech32Module, codex32Module) => {
   const reasons = reasonsOf(asked(calls));
   return {
     ...textCalls(calls, reasons),
+    testPart: partTest(calls, reasons),
     segwit: segwitCalls(calls, reasons),
     ...mendingCalls(calls, reasons),
     descriptor: descriptorFunctions(descriptorCalls(bech32Module), reasons),

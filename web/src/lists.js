@@ -1,12 +1,10 @@
 // The calls of bech32_c that list texts: each counts all of them, and puts as many as there is room for.
-import { Instance } from './instance.js';
-
 const SIZE = 8;
 const NO_MEMORY = 91, NO_ROOM = 92;
 
 // Room for the texts and for the edits that make them, and memory that they are worked out in, which suffices for most. Where
 // they do not, the room that the call tells is made, or this many times as much memory, up to the most.
-const ROOM = 16384, EDITS = 8, MEMORY = 65536 + 512 * 1024, MORE = 8, MOST = 1 << 28;
+const ROOM = 16384, EDITS = 8, MEMORY = 65536 + 512 * 1024, MORE = 8, MOST = 1 << 24;
 
 /** The regions that these calls want beside `text` and `erasures`. */
 export const LIST_REGIONS = {
@@ -64,7 +62,7 @@ export const nearEditsOf = (checksum, text) => (it, regions) => {
 // What suffices for each suggestion: memory, and room for this many addresses.
 const SUGGESTIONS = 48;
 
-/** The regions that suggestions want, in an instance of their own. */
+/** The regions that suggestions want, in an instance that is wiped after each call. */
 export const SUGGEST_REGIONS = {
   text: 8192, hrp: 96, memory: 2 * SIZE, lent: 196608, kinds: SUGGESTIONS, editLocations: SIZE * SUGGESTIONS, near: 90 * SUGGESTIONS,
   count: SIZE,
@@ -89,23 +87,17 @@ export const suggestionsOf = (text, hrp) => (it, regions) => {
   return { number, found };
 };
 
-// What is listed in an instance of its own, of which nothing is left.
-export const listedBeside = (module, regions, list) => {
-  const it = new Instance(module, regions);
-  try {
-    return list(it, regions);
-  } finally {
-    it.wipe();
-  }
-};
+// What is lent after so much: up to the most, and after that more than it, which is not lent.
+const moreThan = (lent) => (lent < MOST ? Math.min(MORE * lent, MOST) : MORE * lent);
 
-/** What is listed in an instance, or, where that has too little room or memory, in another one. */
-export const listed = (module, it, regions, list) => {
+/** What is listed in an instance, or, where that has too little room or memory, in another one, by its `run`. */
+export const listed = (run, it, regions, list) => {
   let sizes = regions, answer = list(it, sizes);
   while ([NO_MEMORY, NO_ROOM].includes(answer.number)) {
-    sizes = { ...sizes, ...(answer.number === NO_MEMORY ? { lent: MORE * sizes.lent } : answer.wanted) };
+    sizes = { ...sizes, ...(answer.number === NO_MEMORY ? { lent: moreThan(sizes.lent) } : answer.wanted) };
     if (Object.values(sizes).some((size) => size > MOST)) return answer;
-    answer = listedBeside(module, sizes, list);
+    const wanted = sizes;
+    answer = run(wanted, (other) => list(other, wanted));
   }
   return answer;
 };

@@ -13,9 +13,9 @@ export const CODES = {
   45: 'PADDING_NOT_ZERO', 46: 'PROGRAM_TOO_SHORT', 47: 'PROGRAM_TOO_LONG', 48: 'PROGRAM_NOT_V0', 49: 'OTHER_HRP',
   51: 'ENCODED_TOO_LONG', 52: 'ENCODED_BAD_VERSION', 53: 'ENCODED_ADDRESS_TOO_LONG', 55: 'BAD_SIZE',
   61: 'TOO_FEW_SHARES', 62: 'OTHER_SET', 63: 'INDEX_TWICE', 64: 'CONTRADICTION', 65: 'BAD_COUNT', 66: 'BAD_RANDOM',
-  67: 'BAD_ELEMENT', 70: 'UNSUPPORTED_VERSION', 71: 'NO_BLINDING_KEY', 80: 'NOT_IN_DESCRIPTOR', 81: 'NOT_MS',
-  82: 'BAD_LENGTH', 83: 'BAD_THRESHOLD', 84: 'BAD_SHARE_INDEX', 85: 'BAD_IDENTIFIER', 86: 'NO_SHARE_INDEX',
-  87: 'BITS_LEFT_OVER', 88: 'NO_DESCRIPTOR_CHECKSUM', 89: 'DESCRIPTOR_TOO_LONG',
+  67: 'BAD_ELEMENT', 68: 'EQUAL_RANDOM', 70: 'UNSUPPORTED_VERSION', 71: 'NO_BLINDING_KEY', 80: 'NOT_IN_DESCRIPTOR',
+  81: 'NOT_MS', 82: 'BAD_LENGTH', 83: 'BAD_THRESHOLD', 84: 'BAD_SHARE_INDEX', 85: 'BAD_IDENTIFIER',
+  86: 'NO_SHARE_INDEX', 87: 'BITS_LEFT_OVER', 88: 'NO_DESCRIPTOR_CHECKSUM', 89: 'DESCRIPTOR_TOO_LONG',
 };
 
 /** What is said of a refusal that no sentence with figures fits. */
@@ -52,6 +52,7 @@ export const SENTENCES = {
   65: 'There are fewer shares than the threshold, or more than 31.',
   66: 'There are not as many random bytes as characters are drawn.',
   67: 'An element is above 31.',
+  68: 'The random bytes are all equal.',
   70: 'A confidential address of another witness version than 0 is not supported.',
   71: 'A confidential address has less than 33 bytes behind its version.',
   80: 'A character may not stand in a descriptor, or not in its checksum.',
@@ -63,7 +64,7 @@ export const SENTENCES = {
   86: 'The share index is not one character of the alphabet.',
   87: 'More than four bits stand behind the bytes of the payload.',
   88: 'The text does not end in “#” and eight characters.',
-  89: 'The text has more than 7500 characters, too many to be mended.',
+  89: 'The text has more than 7500 characters (1400 for two changes), too many to be mended.',
 };
 
 /** The characters of the elements 0 to 31. */

@@ -79,7 +79,7 @@ test('an address with the checksum of the other kind is no address', () => {
 });
 
 test('each single error of an address is marked and mended, with a caution', () => {
-  for (const text of [V0, V1]) {
+  for (const text of [V0, TAPROOT]) {
     for (const damaged of changedOnce(text)) {
       const found = said(damaged), place = Array.from(text).findIndex((c, i) => c !== damaged[i]);
       const [offer] = found.offers;
@@ -89,6 +89,14 @@ test('each single error of an address is marked and mended, with a caution', () 
       assert.deepEqual(found.said, ['As typed, the checksum is wrong for both Bech32m and Bech32.']);
       assert.deepEqual([offer.text, placesOf(offer), beforeOf(offer), offer.changes], [text, [place], damaged, []]);
     }
+  }
+});
+
+test('no address is offered of a form that is not in use', () => {
+  assert.equal(it.segwit.decode(V1).program.length, 20);
+  assert.match(all(said(V1)), /valid Bech32m address/);
+  for (const damaged of [...changedOnce(V1), V1.slice(0, 20) + V1.slice(21), V1.slice(0, 20) + V1.slice(19)]) {
+    assert.deepEqual((said(damaged).offers ?? []).map(({ text }) => text), [], damaged);
   }
 });
 
@@ -254,7 +262,7 @@ test('more changes than three are counted, and listed', () => {
 
 test('each missing, doubled and swapped character of an address is found, with its columns', () => {
   const columnsOf = ({ columns }) => columns.filter(({ isChanged }) => isChanged).map(({ from, to, place }) => `${from ?? ''}>${to ?? ''}@${place}`);
-  for (const text of [V0, V1, TAPROOT]) {
+  for (const text of [V0, TAPROOT]) {
     for (let place = 3; place < text.length; place++) {
       const { [place]: it, [place + 1]: next } = text, front = text.slice(0, place), behind = text.slice(place + 1);
       const end = place + /^(.)\1*/.exec(text.slice(place))[0].length - 1;

@@ -217,3 +217,11 @@ test('each number of a row has a sentence', () => {
   assert.equal(new Set([...numbers].map(message)).size, numbers.size);
   for (const it of numbers) assert.match(message(it), /^[A-Z].*\.$/);
 });
+
+test('a wanted human-readable part that is none is refused', () => {
+  for (const texts of [TEXTS, []]) {
+    for (const [hrp, code, place] of [['q'.repeat(84), 'HRP_TOO_LONG', 83], ['bé', 'HRP_NOT_ASCII', 1], [' bc', 'HRP_INVALID', 0], ['Bc', 'HRP_MIXED_CASE', 1]]) {
+      assert.throws(() => segwit.decodeMany(texts, hrp), { name: 'Refused', code, place });
+    }
+  }
+});

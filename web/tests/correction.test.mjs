@@ -214,8 +214,11 @@ test('a text with `?` that is refused is told as it was given', () => {
   assert.throws(() => nearEdits('bech32', 'a12u?l5l'), { code: 'INVALID_CHARACTER', place: 4 });
 });
 
+// One of version 0 with 20 bytes, and one of version 1 with 32 (BIP-173, BIP-350).
+const IN_USE = ['bc1qw508d6qejxtdg4y5r3zarvary0c5xw7kv8f3t4', 'bc1p0xlxvlhemja6c4dqv22uapctqupfhlxm9h8z3k2e72q4k9hcz7vqzk5jj0'];
+
 test('addresses are suggested', () => {
-  for (const [, right] of TEXTS.filter(([, it]) => it.startsWith('bc1'))) {
+  for (const right of IN_USE) {
     const made = (text, changes, edit = null) => [{ text, changes, edit }];
     assert.deepEqual(segwit.suggest(right, 'bc'), made(right, []));
     assert.deepEqual(segwit.suggest(right.toUpperCase(), 'BC'), made(right.toUpperCase(), []));
@@ -233,6 +236,18 @@ test('addresses are suggested', () => {
     assert.throws(() => segwit.suggest(text, hrp), { name: 'Refused', code, place });
   }
   assert.throws(() => segwit.suggest('bc1'), TypeError);
+});
+
+test('suggestions are of forms in use, but for the text itself', () => {
+  for (const [version, length] of [[0, 20], [0, 32], [1, 20], [1, 31], [1, 32], [1, 33], [2, 32], [16, 2]]) {
+    const right = segwit.encode('bc', version, new Uint8Array(length).fill(9 * version + length)), at = right.length - 3;
+    const wrong = `${right.slice(0, at)}${right[at] === 'q' ? 'p' : 'q'}${right.slice(at + 1)}`;
+    assert.deepEqual(segwit.suggest(right, 'bc').map(({ text }) => text), [right]);
+    const isInUse = version === 0 || (version === 1 && length === 32);
+    for (const text of [wrong, right.slice(0, at) + right.slice(at + 1), `${right.slice(0, at)}?${right.slice(at + 1)}`]) {
+      assert.deepEqual(segwit.suggest(text, 'bc').map((it) => it.text), isInUse ? [right] : [], text);
+    }
+  }
 });
 
 test('the alphabet is that of the texts', () => {

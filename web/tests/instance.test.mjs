@@ -2,7 +2,7 @@
 import test from 'node:test';
 import assert from 'node:assert/strict';
 import { columnFunctions } from '../out/package/columns.js';
-import { Instance, Stopped } from '../out/package/instance.js';
+import { Instance, Stopped, runner } from '../out/package/instance.js';
 import { library, Refused } from '../out/package/library.js';
 import { compiled } from '../out/package/modules.js';
 
@@ -73,7 +73,8 @@ test('so are shares, long strings, sets and what is made of bytes', () => withIn
     () => codex32.recover([SHARES[0], 'é'.repeat(3000)]), () => codex32.proposeLong(long), () => codex32.proposeLong(`${LONG.slice(0, 20)}${'q'.repeat(20)}${LONG.slice(40)}`),
     () => codex32.proposeLong('?'.repeat(127)),
     () => codex32.split(bytes, 9, 31), () => codex32.split(bytes.subarray(0, 16), 2, 2, null, { into: Uint8Array }), () => codex32.split(bytes, 9, 8), () => codex32.split(bytes.subarray(0, 15), 2, 2),
-    () => codex32.split(bytes, 2, 2, 'test', { random: new Uint8Array(103).fill(0x55) }), () => codex32.split(bytes, 2, 2, 'test', { random: new Uint8Array(102).fill(0x55) }),
+    () => codex32.split(bytes, 2, 2, 'test', { random: new Uint8Array(103).fill(0x55, 1) }), () => codex32.split(bytes, 2, 2, 'test', { random: new Uint8Array(102).fill(0x55) }),
+    () => codex32.split(bytes, 2, 2, 'test', { random: new Uint8Array(103).fill(0x55) }),
     ...[SHARES[0], LONG, `${LONG.slice(0, -1)}q`, `${LONG.slice(0, -1)}b`].map((text) => () => codex32.share(new TextEncoder().encode(text))),
     () => codex32.recover(SHARES.map((text) => new TextEncoder().encode(text))), () => codex32.derive(SHARES, 'd', { into: Uint8Array }),
     () => codex32.encodePayload(2, 'test', 'a', new Uint8Array(26).fill(0x62)),
@@ -184,6 +185,51 @@ test('arguments stand in regions of their own', () => {
   assert.throws(() => new Instance(modules[0], { a: 2 ** 40 }), RangeError);
 });
 
+test('suggestions have one instance and descriptors another, of which nothing is left after each call', () => withInstances((started) => {
+  const { segwit, descriptor } = library(...modules);
+  const wrong = `${ADDRESS.slice(0, -1)}q`, found = segwit.suggest(wrong, 'bc'), none = segwit.suggest(wrong, 'tb');
+  assert.deepEqual([found.map(({ text }) => text), none], [[ADDRESS], []]);
+  const text = 'raw(deadbeef)', sum = descriptor.checksum(text), mended = descriptor.mend(`raw(deedbeef)#${sum}`);
+  assert.ok(mended.some((it) => it.text === `${text}#${sum}`));
+  for (let round = 0; round < 3; round++) {
+    assert.deepEqual(segwit.suggest(wrong, 'bc'), found);
+    assert.throws(() => segwit.suggest('bc1Q?q', 'bc'), Refused);
+    assert.equal(descriptor.check(`${text}#${sum}`), text);
+    assert.throws(() => descriptor.check('raw'), Refused);
+    assert.deepEqual(descriptor.mend(`raw(deedbeef)#${sum}`), mended);
+    assert.deepEqual(segwit.suggest(wrong, 'tb'), none);
+    assert.equal(started.length, 4);
+    assert.ok(started.slice(2).every((one) => isFresh(memoryOf(one), FRESH[0])));
+  }
+}));
+
+test('an instance whose memory has grown large is wiped and not kept', () => withInstances((started) => {
+  const run = runner(modules[0]), before = run({ text: 64 }, (it) => it.bytes.length);
+  const put = (size) => run({ text: size }, (it) => [Number(it.putBytes('text', new Uint8Array(size).fill(7))), it.bytes.length]);
+  assert.deepEqual(put(64), [64, before]);
+  assert.equal(put(1 << 22)[0], 1 << 22);
+  assert.equal(started.length, 1);
+  assert.equal(put(1 << 23)[0], 1 << 23);
+  assert.ok(isFresh(memoryOf(started[0]), FRESH[0]));
+  assert.deepEqual(put(64), [64, before]);
+  assert.throws(() => run({ text: 2 ** 40 }, () => 0), RangeError);
+  assert.deepEqual(put(64), [64, before]);
+  assert.ok(started.every((one) => isFresh(memoryOf(one), FRESH[0])));
+}));
+
+test('a call that stops is the last of its instance, and the next one has another', () => withInstances((started) => {
+  const run = runner(modules[0]);
+  const call = (at) => run({ text: 64, length: 8, other: 8 }, (it) => {
+    const { length } = it.putText('text', 'a12uel5l');
+    return it.call('bech32_check', 1, at ?? it.pointer('text'), length, it.pointer('length'), it.pointer('other'));
+  });
+  assert.equal(call(), 0);
+  assert.throws(() => call(0xfffffff0n), Stopped);
+  assert.ok(memoryOf(started[0]).every((byte) => byte === 0));
+  assert.deepEqual([call(), call(), started.length], [0, 0, 2]);
+  assert.ok(isFresh(memoryOf(started[1]), FRESH[0]));
+}));
+
 // A library of which the calls that list answer so, with what they were given.
 const answering = (answers, body) => {
   const asked = [];
@@ -210,8 +256,8 @@ test('where there is too little memory, the call is made again with more', () =>
   answering((turn) => (turn % 3 ? { number: 91 } : null), (it, asked, started) => {
     assert.deepEqual(it.nearest('bech32', DAMAGED).map(({ text }) => text), [ADDRESS]);
     assert.deepEqual(it.nearEdits('bech32', MISSING).map(({ text }) => text), [ADDRESS]);
-    const memory = asked.map((one) => one.memory / asked[0].memory);
-    assert.deepEqual(memory, [1, 8, 64, 1, 8, 64]);
+    const [first] = asked, sizes = [first.memory, 8 * first.memory, 2 ** 24];
+    assert.deepEqual(asked.map((one) => one.memory), [...sizes, ...sizes]);
     assert.ok(started.slice(2).every((one) => isFresh(memoryOf(one), FRESH[0])));
   });
 });
@@ -232,7 +278,7 @@ test('near texts that are too many for any memory are refused, and not cut', () 
       assert.throws(() => it.nearest('bech32', ADDRESS), RangeError);
       assert.throws(() => it.nearEdits('bech32', ADDRESS), RangeError);
       assert.equal(asked.length, answer.number === 91 ? 6 : 2);
-      assert.ok(asked.every(({ memory }) => memory <= 2 ** 28));
+      assert.ok(asked.every(({ memory }) => memory <= 2 ** 24));
       assert.ok(started.slice(2).every((one) => isFresh(memoryOf(one), FRESH[0])));
     });
   }

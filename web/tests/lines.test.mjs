@@ -9,7 +9,8 @@ import { compiled } from '../out/package/modules.js';
 import { ALPHABET } from './reference.mjs';
 
 const TOP = new URL('../../', import.meta.url);
-const MOST = 16384;
+// A line has so many bytes at most.
+const MOST = { b32: 4096, c32: 16384 };
 const LONG = { 'long-bech32': 'longBech32', 'long-bech32m': 'longBech32m' };
 
 class Reply extends Error {}
@@ -28,8 +29,8 @@ const linesOf = (file) => {
 
 // ---- the words of a line, as the programs read them
 
-const textOf = (line) => {
-  if (line.length > MOST) err(1);
+const textOf = (line, most) => {
+  if (line.length > most) err(1);
   try {
     return new TextDecoder('utf-8', { fatal: true, ignoreBOM: true }).decode(line);
   } catch {
@@ -174,9 +175,9 @@ const OF_STRINGS = {
   },
 };
 
-const replyTo = (line, commands, count) => {
+const replyTo = (line, most, commands, count) => {
   try {
-    const words = textOf(line).split(' ');
+    const words = textOf(line, most).split(' ');
     if (!Object.hasOwn(commands, words[0]) || words.includes('')) err(3);
     count.called++;
     return commands[words[0]](words);
@@ -187,23 +188,32 @@ const replyTo = (line, commands, count) => {
   }
 };
 
-// A text of more than 8,192 bytes is not given to the library: it is too long, whatever else is wrong with it.
-const wantedOf = (line, reply) =>
-  (line.startsWith('decode ') && line.length > 'decode '.length + 8192 && reply !== 'err 1' ? 'err 31' : reply);
-
 for (const [program, commands] of [['b32', OF_TEXTS], ['c32', OF_STRINGS]]) {
   test(`replies to the stored lines of ${program}`, (t) => {
     const lines = linesOf(`crates/${program}/stdin`), replies = linesOf(`crates/${program}/stdout`);
     assert.equal(lines.length, replies.length);
     const count = { called: 0 };
     lines.forEach((line, i) => {
-      const shown = line.toString('latin1'), wanted = wantedOf(shown, replies[i].toString('latin1'));
-      assert.equal(replyTo(line, commands, count), wanted, `line ${i + 1}: ${shown.slice(0, 200)}`);
+      const shown = line.toString('latin1'), wanted = replies[i].toString('latin1');
+      assert.equal(replyTo(line, MOST[program], commands, count), wanted, `line ${i + 1}: ${shown.slice(0, 200)}`);
     });
     t.diagnostic(`${lines.length} lines, of which ${count.called} have the words of a command`);
     assert.ok(count.called > lines.length / 2);
   });
 }
+
+test('replies to the stored rows of long texts, whose lines would be too long', (t) => {
+  const rows = linesOf('crates/vector_rows/stdin').map((line) => line.toString('latin1')).filter((line) => line.startsWith('long|'));
+  // They are the last rows.
+  const replies = linesOf('crates/vector_rows/stdout').slice(-rows.length).map((line) => line.toString('latin1'));
+  const count = { called: 0 };
+  rows.forEach((row, i) => {
+    const line = row.slice('long|'.length).replaceAll('|', ' ');
+    assert.equal(replyTo(Buffer.from(line), line.length, OF_TEXTS, count), replies[i], line.slice(0, 200));
+  });
+  t.diagnostic(`${rows.length} rows`);
+  assert.equal(rows.length, 20);
+});
 
 const MARKS = { swapped: 'x', leftOut: '-', putIn: '+' };
 

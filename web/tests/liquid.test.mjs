@@ -38,6 +38,22 @@ test('up to three wrong characters, or six that cannot be read, are mended', () 
   assert.equal(liquid.correct(`${ADDRESS.slice(0, -7)}???????`), null);
 });
 
+test('as many errors are looked for as one correction has, where none are given', () => {
+  const wrong = [[10, 'q'], [50, '3'], [90, 'y']], unread = [5, 17, 29, 41, 53, 65, 77, 85].map((place) => [place, '?']);
+  for (const [known, errors] of [[0, 3], [1, 2], [2, 2], [3, 1], [4, 1], [5, 0], [6, 0]]) {
+    const text = at(ADDRESS, [...unread.slice(0, known), ...wrong.slice(0, errors)]);
+    assert.deepEqual(liquid.nearest(text).map((it) => it.text), [ADDRESS], `${known} ?`);
+    if (errors < 3) assert.deepEqual(liquid.nearest(at(text, [wrong[errors]])), [], `${known} ? and one error more`);
+    // Twice the errors and those that are known are seven at most.
+    const most = 7 - known >> 1;
+    assert.ok(liquid.nearest(text, [], most).some((it) => it.text === ADDRESS));
+    if (most < 3) assert.throws(() => liquid.nearest(text, [], most + 1), RangeError);
+  }
+  for (const known of [7, 8]) {
+    for (const errors of [undefined, 0, 3]) assert.deepEqual(liquid.nearest(at(ADDRESS, unread.slice(0, known)), [], errors), []);
+  }
+});
+
 test('what is refused', () => {
   const key = new Uint8Array(33);
   for (const [call, code, place] of [

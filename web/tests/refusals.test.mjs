@@ -142,6 +142,7 @@ const CASES = [
   [() => split(16, 2, 2 ** 40), 'BAD_COUNT', null, 'There are 1,099,511,627,776 shares; with the threshold 2 there are from 2 to 31.'],
   [() => split(16, 2, 2, 'test', { random: new Uint8Array(1) }), 'BAD_RANDOM', null, 'There is one random byte; one is taken for each character that is drawn, 26.'],
   ...[0, 51, 53, 5000].map((length) => [() => split(16, 3, 5, 'test', { random: new Uint8Array(length) }), 'BAD_RANDOM', null, `There are ${length === 5000 ? '5,000' : length} random bytes; one is taken for each character that is drawn, 52.`]),
+  ...[0, 0x55, 255].map((byte) => [() => split(16, 3, 5, 'test', { random: new Uint8Array(52).fill(byte) }), 'EQUAL_RANDOM', null, 'The random bytes are all equal.']),
 
   // Of what is given as bytes no character is shown.
   [() => codex32.share(octets('ms10testsxxxbxxxx')), 'INVALID_CHARACTER', 12, 'A character behind the separator may not stand there.'],
@@ -153,7 +154,7 @@ const CASES = [
   [() => descriptor.check('raw(deadbeef)#89f8spxb'), 'NOT_IN_DESCRIPTOR', 21, 'Character 22, “b”, may not stand in a descriptor, or not in its checksum.'],
   [() => descriptor.check('raw(deadbeef)'), 'NO_DESCRIPTOR_CHECKSUM', null, 'The text does not end in “#” and eight characters.'],
   [() => descriptor.check('raw(deedbeef)#89f8spxm'), 'WRONG_CHECKSUM', null, 'The checksum of the descriptor is wrong.'],
-  [() => descriptor.mend('x'.repeat(7501)), 'DESCRIPTOR_TOO_LONG', null, 'The text has more than 7500 characters, too many to be mended.'],
+  [() => descriptor.mend('x'.repeat(7501)), 'DESCRIPTOR_TOO_LONG', null, 'The text has more than 7500 characters (1400 for two changes), too many to be mended.'],
   [() => codex32.share(octets('ms1qtestsxxxxxxxxxxxxxxxxxxxxxxxxxxq68ksv56lmaq5')), 'BAD_THRESHOLD', 3, 'The threshold is neither 0 nor a digit from 2 to 9.'],
   [() => codex32.share(octets('ms10testaxxxxxxxxxxxxxxxxxxxxxxxxxxzd568kp774rau')), 'BAD_SHARE_INDEX', 8, 'The threshold is 0, and the share index is not “s”.'],
   [() => codex32.share(octets('ms12xh04fm5amh7k7ay0jj7mgh3ndf4zdx0dmxgdrhz38hawaewk')), 'BITS_LEFT_OVER', null, 'Behind the last whole byte of the payload stand six bits, and at most four may.'],

@@ -140,10 +140,14 @@ func Recover(texts ...[]byte) ([]byte, error) {
 }
 
 // Split makes count shares of a secret of 16 to 44 bytes, or of 63 or 64, of which any threshold of them recover it, and
-// fewer say nothing of it. The random bytes are those of crypto/rand: where it fails, there are no shares. The identifier is
-// four characters of the alphabet; if it is empty, it is drawn.
+// fewer say nothing of it. The random bytes are those of crypto/rand: where it fails, there are no shares.
 //
-// Refusals, the first that applies: BadThreshold, BadIdentifier, BadShareIndex (the threshold is 0), BadSize, BadCount.
+// The identifier is four characters of the alphabet; if it is empty, it is drawn. Give each split a new one. Shares of two
+// splits of one secret with the same identifier are taken for one set, and Recover returns other bytes, without an error. To
+// get more shares later, derive them from enough shares (Derive).
+//
+// Refusals, the first that applies: BadThreshold, BadIdentifier, BadShareIndex (the threshold is 0), BadSize, BadCount,
+// EqualRandom (the bytes of crypto/rand are all equal).
 func Split(secret []byte, threshold, count int, identifier string) ([][]byte, error) {
 	random := make([]byte, 8*(8*codex32c.BytesSize+4)/5)
 	defer Wipe(random)
@@ -171,7 +175,7 @@ func Split(secret []byte, threshold, count int, identifier string) ([][]byte, er
 
 // SplitWith makes shares by random bytes of yours: (threshold - 1) * ((8 * len(secret) + 4) / 5) of them, for one call alone.
 //
-// Refusals: those of Split, and then BadRandom.
+// Refusals: those of Split, with BadRandom before EqualRandom: bytes that are all equal were never filled in.
 func SplitWith(secret []byte, threshold, count int, identifier string, random []byte) ([][]byte, error) {
 	if count < 0 {
 		count = 0

@@ -66,6 +66,12 @@ func TestRefusals(t *testing.T) {
 	if _, err := codex32.SplitWith(secret, 2, 3, "test", make([]byte, 25)); !errors.Is(err, codex32.BadRandom) {
 		t.Error(err)
 	}
+	if _, err := codex32.SplitWith(secret, 2, 3, "test", make([]byte, 26)); !errors.Is(err, codex32.EqualRandom) {
+		t.Error(err)
+	}
+	if _, err := codex32.SplitWith(secret, 2, 3, "test", append(make([]byte, 25), 1)); err != nil {
+		t.Error(err)
+	}
 	if _, err := codex32.Split(secret, 2, 32, "test"); !errors.Is(err, codex32.BadCount) {
 		t.Error(err)
 	}

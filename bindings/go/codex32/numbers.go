@@ -61,6 +61,9 @@ const (
 	// BadRandom: there are not as many random bytes as characters are drawn.
 	BadRandom Number = 66
 
+	// EqualRandom: the random bytes are all equal.
+	EqualRandom Number = 68
+
 	// NotMs: the human-readable part is not `ms`.
 	NotMs Number = 81
 

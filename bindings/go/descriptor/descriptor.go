@@ -110,10 +110,12 @@ func (m MendedTwice) String() string {
 }
 
 // MendTwo lists the texts with a right checksum that come from a text by two of its characters changed. Either may be in the
-// checksum, or be the `#`. Try Mend first, which takes a tenth of the time and of the memory. bech32.h says their order. It may
-// be that none is what was meant: compare the wallet's addresses.
+// checksum, or be the `#`. Try Mend first: where two characters are wrong, it takes about a 15th of the time at 30 characters
+// and a 150th at 1,400, and less memory. A text has at most 1,400 characters, so that of 100 that are no mistyped descriptors
+// at most one is expected to be answered with any. bech32.h says their order. It may be that none is what was meant: compare
+// the wallet's addresses.
 //
-// Refusals, the first that applies: DescriptorTooLong, NoMemory.
+// Refusals, the first that applies: DescriptorTooLong (more than 1,400 characters), NoMemory.
 func MendTwo(text string) ([]MendedTwice, error) {
 	found, number := bech32c.DescriptorMendTwo(text)
 	if number != 0 {

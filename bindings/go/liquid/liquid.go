@@ -51,8 +51,9 @@ func Decode(text string) (Address, error) {
 }
 
 // Nearest lists the texts near to a mistyped one, as bech32proved.Nearest does, by Blech32: with at most errors other
-// characters, 0 to 3, beside at most six that are known to be wrong. Where twice errors, with their number, is at most six,
-// there is one text at most. It need not be an address: decode it.
+// characters, 0 to 3, beside at most six that are known to be wrong. Twice errors, with their number, may be at most seven.
+// Where it is at most six, there is one text at most: with three errors beside none that are known to be wrong, two beside
+// one or two, one beside three or four, and none beside five or six. It need not be an address: decode it.
 //
 // Refusals, the first that applies: BadNumber (more errors), those of Decode up to HrpMixedCase, TextTooLong, NoChecksum,
 // NoMemory.

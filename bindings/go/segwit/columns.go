@@ -30,9 +30,14 @@ type Texts struct {
 
 // DecodeColumn reads the addresses of a column. Name the human-readable part of your network: another address then has the
 // number OtherHrp. Where it is empty any is accepted, and yours to compare.
-func DecodeColumn(texts bech32proved.Column, hrp string) Addresses {
-	found, versions, lengths := bech32c.SegwitDecodeMany(texts.Laid(), hrp)
-	return Addresses{found.Numbers, versions, lengths, bech32proved.MadeColumn(found)}
+//
+// Refusals of a human-readable part that is not empty: NotUtf8, HrpTooLong, HrpNotAscii, HrpInvalid, HrpMixedCase.
+func DecodeColumn(texts bech32proved.Column, hrp string) (Addresses, error) {
+	found, versions, lengths, number := bech32c.SegwitDecodeMany(texts.Laid(), hrp)
+	if number != 0 {
+		return Addresses{}, &bech32proved.Refused{Number: bech32proved.Number(number), Text: hrp, Place: -1}
+	}
+	return Addresses{found.Numbers, versions, lengths, bech32proved.MadeColumn(found)}, nil
 }
 
 // EncodeColumn makes the addresses of one human-readable part: a witness version, from 0 to 16, and a program for each.
@@ -45,16 +50,20 @@ func EncodeColumn(hrp string, versions []byte, programs bech32proved.Column) Tex
 }
 
 // DecodeMany reads the addresses of a list by one call of the library. Name the human-readable part of your network: another
-// address then has the number OtherHrp. Where it is empty any is accepted, and yours to compare.
-func DecodeMany(texts []string, hrp string) []Row {
-	rows, found := make([]Row, len(texts)), DecodeColumn(bech32proved.ColumnOf(texts), hrp)
+// address then has the number OtherHrp. Where it is empty any is accepted, and yours to compare. It refuses as DecodeColumn does.
+func DecodeMany(texts []string, hrp string) ([]Row, error) {
+	found, err := DecodeColumn(bech32proved.ColumnOf(texts), hrp)
+	if err != nil {
+		return nil, err
+	}
+	rows := make([]Row, len(texts))
 	for at, number := range found.Numbers {
 		rows[at].Number = bech32proved.Number(number)
 		if program, is := found.Programs.Row(at); is {
 			rows[at].Address = Address{texts[at][:found.HRPLengths[at]], int(found.Versions[at]), program}
 		}
 	}
-	return rows
+	return rows, nil
 }
 
 // EncodeMany makes the addresses of one human-readable part by one call of the library: a witness version, from 0 to 16, and a

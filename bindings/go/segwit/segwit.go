@@ -54,7 +54,8 @@ type Suggestion struct {
 }
 
 // Suggest lists the addresses of a network, that of hrp in either case, that someone may have meant who typed a text. Each `?`
-// in it is a character that cannot be read. Each is a guess: show it, and let people compare it with the source before it
+// in it is a character that cannot be read. They are of forms in use (version 0 with 20 or 32 bytes, version 1 with 32), but for
+// the text itself, which is listed if it is an address of the network. Each is a guess: show it, and let people compare it with the source before it
 // is paid to. bech32.h says which texts are tried, and in which order.
 //
 // Refusals, the first that applies: of hrp NotUtf8, HrpEmpty, HrpTooLong, HrpNotAscii, HrpInvalid, HrpMixedCase; of the text

@@ -3,8 +3,8 @@
     python -m bech32_proved [b32|c32|mend]
 
 All lines of these programs are answered, by the functions of the package, and their replies are the same; `err NUMBER`
-says why a line is refused, by the numbers of `bech32_proved.errors`, and 1 to 5 (the line has more than 16,384 bytes; is not
-UTF-8; no such command or checksum, wrong number of words, or a space too many; a word is no number, version or list of
+says why a line is refused, by the numbers of `bech32_proved.errors`, and 1 to 5 (the line has more than 4,096 bytes, or
+16,384 in c32 and mend; is not UTF-8; no such command or checksum, wrong number of words, or a space too many; a word is no number, version or list of
 locations; a word is not hexadecimal digits, or no blinding key) and 91 (out of memory). Locations are counted from the end
 of a text, and 0 is its last character. What is proved is the library; this is tested.
 
@@ -85,7 +85,7 @@ import os
 import sys
 from typing import List, Optional
 
-from ._lines import LINE_LIMIT, PROGRAMS, reply
+from ._lines import LINE_LIMITS, PROGRAMS, reply
 
 # So much is read at once.
 _READ_SIZE = 65536
@@ -111,7 +111,7 @@ def _run(program: str) -> Optional[str]:
             return "reading failed"
         *ended, line = (line + got).split(b"\n") if got else [line, b""]
         # One byte more than a line may have shows that it is too long.
-        line = line[: LINE_LIMIT + 1]
+        line = line[: LINE_LIMITS[program] + 1]
         try:
             if got or ended != [b""]:
                 _write("".join(f"{reply(program, it)}\n" for it in ended))

@@ -140,8 +140,8 @@ liquid_nearest = _function(
     *(*_IN, ctypes.POINTER(_SIZE), _SIZE, _SIZE, ctypes.POINTER(Memory), *_OUT),
 )
 
-# Those of descriptors: the characters of a checksum, and the most of a text that is mended.
-DESCRIPTOR_CHECKSUM, MAX_DESCRIPTOR = 8, 7500
+# Those of descriptors: the characters of a checksum, and the most of a text that is mended by one edit, and by two.
+DESCRIPTOR_CHECKSUM, MAX_DESCRIPTOR, MAX_DESCRIPTOR_TWO = 8, 7500, 1400
 
 descriptor_checksum = _function(_BECH32, "bech32_descriptor_checksum", *_IN, *_OUT, _SIZE_OUT)
 descriptor_check = _function(_BECH32, "bech32_descriptor_check", *_OUT)

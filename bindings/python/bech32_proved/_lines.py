@@ -11,8 +11,8 @@ from .edits import EditKind, NearEdit, near_edits
 from .errors import NoCorrection, NotInDescriptor, Refused
 from .texts import ALPHABET, Checksum, Correction, as_typed
 
-LINE_LIMIT = 16384
-"""The bytes that a line has at most."""
+LINE_LIMITS = {"b32": 4096, "c32": 16384, "mend": 16384}
+"""The bytes that a line of each program has at most."""
 
 # Refusals of the programs; the others are those of the libraries.
 _LINE_TOO_LONG = 1
@@ -31,6 +31,9 @@ _NO_THRESHOLD = 1
 # The largest location, witness version, number of errors, threshold and number of shares that a word may name.
 _MOST_LOCATION, _MOST_VERSION, _MOST_ERRORS, _MOST_THRESHOLD, _MOST_SHARES = _library.MAX_TEXT - 1, 31, 2, 9, 99
 _MOST_LIQUID_ERRORS = 3
+
+# Of more near texts than this, as many are listed, the first, and that there are more.
+_MOST_TEXTS = 1000
 
 _DONE = {EditKind.SWAPPED: "swapped", EditKind.LEFT_OUT: "left-out", EditKind.PUT_IN: "put-in"}
 _MENDED = {
@@ -210,7 +213,8 @@ def _nearest(checksum: str, text: str, *words: str) -> str:
     *locations, errors = words
     known, located = _checksum(checksum), _locations(locations)
     near = texts.near(known, as_typed(text, located), _number(errors, _MOST_ERRORS))
-    return " ".join(["ok", *(it.text.lower() for it in near)])
+    more = ["more"] if len(near) > _MOST_TEXTS else []
+    return " ".join(["ok", *(it.text.lower() for it in near[:_MOST_TEXTS]), *more])
 
 
 def _edits(checksum: str, text: str) -> str:
@@ -258,6 +262,8 @@ def _liquid(text: str, *words: str) -> str:
     *locations, errors = words
     typed = as_typed(text, _locations(locations))
     wrong = _number(errors, _MOST_LIQUID_ERRORS)
+    if liquid.is_too_much(len(set(typed.known)), wrong):
+        raise _NotAnswered(_BAD_WORD)
     near = texts.listed_near(_library.liquid_nearest, (), typed, wrong)
     return " ".join(["ok", *(it.text.lower() for it in near)])
 
@@ -301,7 +307,7 @@ class _Command(NamedTuple):
 
 
 # No line has more words.
-_ANY = LINE_LIMIT
+_ANY = max(LINE_LIMITS.values())
 
 PROGRAMS: Dict[str, Dict[str, _Command]] = {
     "b32": {
@@ -343,7 +349,7 @@ PROGRAMS: Dict[str, Dict[str, _Command]] = {
 
 def _asked(program: str, line: bytes) -> Tuple[_Command, List[str]]:
     # A command, and the words behind its own, between single spaces.
-    if len(line) > LINE_LIMIT:
+    if len(line) > LINE_LIMITS[program]:
         raise _NotAnswered(_LINE_TOO_LONG)
     try:
         name, space, rest = line.decode("utf-8").partition(" ")

@@ -7,7 +7,7 @@ from ._library import MAX_TEXT, Lent, refuse
 
 # The bytes that a search is lent: at first, with as many more for each character of a text; at most; and the factor
 # by which they grow if they do not suffice.
-LEAST_MEMORY, OF_A_CHARACTER, MOST_MEMORY, _GROWTH = 1 << 16, 512, 1 << 28, 8
+LEAST_MEMORY, OF_A_CHARACTER, MOST_MEMORY, _GROWTH = 1 << 16, 512, 1 << 24, 8
 
 # The lent memory does not suffice.
 _NO_MEMORY = 91

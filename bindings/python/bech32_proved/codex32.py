@@ -298,15 +298,18 @@ def split(
     `into=bytearray` a `bytearray`. The characters of those before the `threshold`-th are the lowest five bits of
     the operating system's random bytes (`secrets`), and the others are derived from these and the secret's own
     string (BIP-93). If the system has no random bytes, what `secrets` raises is raised here, and there is no share.
-    The identifier, four characters of the alphabet in one case, is the same in all shares, and tells them from those
-    of another secret: None draws it at random too, which the standard leaves free.
+
+    The identifier, four characters of the alphabet in one case, is the same in all shares: None draws it at random,
+    which the standard leaves free. Give each split a new one. Shares of two splits of one secret with the same
+    identifier are taken for one set, and `recover` returns other bytes, without an error. To get more shares later,
+    derive them from enough shares (`derive`).
 
         >>> shares = split(bytes(16), 2, 3, "cash")
         >>> [text[:9] for text in shares]
         ['ms12casha', 'ms12cashc', 'ms12cashd']
 
     Raises the first of: `BadThreshold`, `BadIdentifier`, `BadShareIndex`, `BadSize`, `BadCount`,
-    `BadRandom`.
+    `BadRandom`, `EqualRandom`.
     """
     _tested(into, str)
     number, named = _threshold(threshold), _ANY if identifier is None else _named(identifier)

@@ -34,6 +34,7 @@ from typing import Any, Callable, List, NamedTuple, Optional, Tuple, Union
 import numpy as np
 
 from . import _arrow, _library
+from .segwit import part_of
 from .texts import Checksum
 
 NULL_ROW = 1
@@ -430,10 +431,12 @@ def check(texts: Any, checksum: Optional[Checksum] = None, threads: int = 1, pro
 
 def decode(texts: Any, hrp: Optional[str] = None, threads: int = 1, progress: Progress = None) -> Addresses:
     """Decodes segwit addresses. Name the human-readable part of your network: other addresses then have the number
-    OTHER_HRP. Where it is None any is accepted, and yours to compare."""
+    OTHER_HRP. Where it is None any is accepted, and yours to compare.
+
+    Raises, of a part that is none, `HrpTooLong`, `HrpNotAscii`, `HrpInvalid` or `HrpMixedCase`."""
     if hrp == "":
         raise ValueError("no address has an empty human-readable part")
-    part_of, threads = _part_of(hrp or ""), _many(threads)
+    wanted, threads = b"" if hrp is None else part_of(hrp), _many(threads)
     total, parts = _parts(_pieces(texts), threads)
     numbers, versions, lengths = (np.empty(total, np.uint8) for _ in range(3))
 
@@ -441,7 +444,7 @@ def decode(texts: Any, hrp: Optional[str] = None, threads: int = 1, progress: Pr
         done = ctypes.c_size_t()
         _stop(
             _library.segwit_decode_many(
-                *(part.piece.column, part.first, part_of, len(part_of), _bytes(numbers, part.at), part.count),
+                *(part.piece.column, part.first, wanted, len(wanted), _bytes(numbers, part.at), part.count),
                 *(_bytes(versions, part.at), part.count, _bytes(lengths, part.at), part.count),
                 *(_offsets(own), len(own), _bytes(data), len(data), done),
             )

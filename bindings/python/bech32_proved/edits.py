@@ -88,7 +88,7 @@ def near_edits(checksum: Checksum, text: str) -> List[NearEdit]:
     run.
 
     The text may have any length, and any number of characters behind the separator. Raises what `check` raises,
-    but for `TextTooLong`, `NoChecksum` and `WrongChecksum`; and `MemoryError` if the texts are too many for 256 MB.
+    but for `TextTooLong`, `NoChecksum` and `WrongChecksum`; and `MemoryError` if the texts are too many for 16 MB.
     """
     known, data = _number(checksum), utf8(text)
     search, asked = _searches.Search(text, data), (known, *given(data))

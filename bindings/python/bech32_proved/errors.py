@@ -303,6 +303,13 @@ class BadElement(Refused):
     number = 67
 
 
+class EqualRandom(Refused):
+    """The random bytes are all equal."""
+
+    sentence = "the random bytes are all equal"
+    number = 68
+
+
 class UnsupportedVersion(Refused):
     """A confidential address of another witness version than 0 is not supported."""
 
@@ -381,9 +388,9 @@ class NoDescriptorChecksum(Refused):
 
 
 class DescriptorTooLong(Refused):
-    """The text has more than 7500 characters, too many to be mended."""
+    """The text has more than 7500 characters (1400 for two changes), too many to be mended."""
 
-    sentence = "the text has more than 7500 characters, too many to be mended"
+    sentence = "the text has more than 7500 characters (1400 for two changes), too many to be mended"
     number = 89
 
 
@@ -427,6 +434,7 @@ BY_NUMBER: Dict[int, Type[Refused]] = {
     65: BadCount,
     66: BadRandom,
     67: BadElement,
+    68: EqualRandom,
     70: UnsupportedVersion,
     71: NoBlindingKey,
     80: NotInDescriptor,

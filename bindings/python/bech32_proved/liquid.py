@@ -12,7 +12,7 @@ the curve is not tested.
 """
 
 import ctypes
-from typing import Iterable, List, NamedTuple
+from typing import Iterable, List, NamedTuple, Optional
 
 from . import _library
 from ._library import Buffer, Octets, given, octets, refuse, utf8, whole
@@ -24,6 +24,9 @@ _NO_ELEMENT = 4
 
 # A text is mended if twice the number of wrong characters, plus the number of those known to be wrong, is at most this.
 _BOUND = 6
+
+# What twice the errors, with the number of characters that are known to be wrong, may be at most.
+_MOST_SOUGHT = 7
 
 
 class Address(NamedTuple):
@@ -98,23 +101,39 @@ def correct(text: str, places: Iterable[int] = (), *, erasures: Iterable[int] = 
     typed = _known(text, places, erasures)
     known = len(set(typed.known))
     # With more than six there is none, but the faults of the text are told first.
-    found = listed_near(_library.liquid_nearest, (), typed, max(_BOUND - known, 0) // 2)
+    found = listed_near(_library.liquid_nearest, (), typed, _errors_beside(known))
     if known > _BOUND or not found:
         refuse(_NO_CORRECTION, text)
     return found[0]
 
 
 def nearest(
-    text: str, places: Iterable[int] = (), errors: int = 3, *, erasures: Iterable[int] = ()
+    text: str, places: Iterable[int] = (), errors: Optional[int] = None, *, erasures: Iterable[int] = ()
 ) -> List[Correction]:
     """Lists the texts near to a mistyped one, in its case: all that Blech32 accepts and that differ from it in at most
     `errors` characters, 0 to 3, behind the separator and beside those that are known to be wrong, of which there may be
-    six. Where twice `errors`, with their number, is at most six, there is one text at most. Three errors beside three of
-    those or more take seconds.
+    six. Twice `errors`, with their number, may be at most seven. Where it is at most six, there is one text at most: so
+    many are looked for where `errors` is left out, 3 beside none that are known to be wrong, 2 beside one or two, 1 beside
+    three or four, and none beside five or six.
 
     Raises what `bech32_proved.nearest` raises.
     """
-    wrong = whole(errors, "errors")
+    typed = _known(text, places, erasures)
+    known = len(set(typed.known))
+    wrong = _errors_beside(known) if errors is None else whole(errors, "errors")
     if wrong not in range(4):
         raise ValueError(f"errors must be 0, 1, 2 or 3, not {wrong}")
-    return listed_near(_library.liquid_nearest, (), _known(text, places, erasures), wrong)
+    if is_too_much(known, wrong):
+        most = (_MOST_SOUGHT - known) // 2
+        raise ValueError(f"errors must be at most {most} beside {known} that are known to be wrong, not {wrong}")
+    return listed_near(_library.liquid_nearest, (), typed, wrong)
+
+
+def is_too_much(known: int, wrong: int) -> bool:
+    """Whether so many errors are not looked for beside this many characters that are known to be wrong."""
+    return known <= _BOUND and 2 * wrong + known > _MOST_SOUGHT
+
+
+def _errors_beside(known: int) -> int:
+    # How many errors one correction has beside this many characters that are known to be wrong.
+    return max(_BOUND - known, 0) // 2

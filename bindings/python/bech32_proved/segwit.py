@@ -83,7 +83,8 @@ class Suggestion(NamedTuple):
 
 def suggest(text: str, hrp: str) -> List[Suggestion]:
     """Did you mean? Lists the addresses of a network, that of a human-readable part, that someone may have meant who typed
-    a text. Each `?` in it is a character that cannot be read.
+    a text. Each `?` in it is a character that cannot be read. Each is of a form in use (version 0 with 20 or 32 bytes,
+    version 1 with 32), but for the text itself, which is listed if it is an address of the network.
 
         >>> [found] = suggest("bc1q?508d6qejxtdg4y5r3zarvaty0c5xw7kv8f3t4", "bc")
         >>> found.text
@@ -99,11 +100,7 @@ def suggest(text: str, hrp: str) -> List[Suggestion]:
     Raises the first of, of `hrp`: `HrpEmpty`, `HrpTooLong`, `HrpNotAscii`, `HrpInvalid`, `HrpMixedCase`; and of `text`:
     `InvalidCharacter`, `MixedCase`, `NoSeparator`, and the same.
     """
-    data, part = utf8(text), utf8(hrp, "hrp")
-    # The human-readable part is told first.
-    number = _library.encode(1, *given(part), *given(b""), *Buffer(_library.MAX_TEXT).out)
-    if number != 0:
-        refuse(number, hrp)
+    data, part = utf8(text), part_of(hrp)
     most, lent = _library.SUGGESTIONS, Lent(_library.SUGGEST_MEMORY)
     kinds, places = ctypes.create_string_buffer(most), (ctypes.c_size_t * most)()
     texts, count = ctypes.create_string_buffer(most * _library.MAX_ADDRESS), ctypes.c_size_t()
@@ -116,6 +113,15 @@ def suggest(text: str, hrp: str) -> List[Suggestion]:
         start, end = end, end + len(text) + _LONGER.get(kind, 0)
         found.append(_suggestion(text, kind, place, texts.raw[start:end].decode("ascii")))
     return found
+
+
+def part_of(hrp: str) -> bytes:
+    """The bytes of a human-readable part. Raises what `suggest` does of `hrp`."""
+    part = utf8(hrp, "hrp")
+    number = _library.encode(1, *given(part), *given(b""), *Buffer(_library.MAX_TEXT).out)
+    if number != 0:
+        refuse(number, hrp)
+    return part
 
 
 # By how many characters they make a text longer.

@@ -367,15 +367,16 @@ def nearest(
     texts. If these fill more than 16 KB, there is a second search, which takes as long.
 
         characters   none known   one          two          three
-        42           0.05, 1      0.1, 1       0.1, 1       0.1, 17
-        62           0.1, 1       0.2, 1       0.2, 2       0.2, 50
-        90           0.15, 1      0.25, 1      0.25, 4      0.35, 110
-        200          0.6, 1       0.6, 2       0.7, 20      1.3, 550
-        400          2, 1         1.5, 3       1.6, 75      5.5, 2,300
-        1,000        8, 2         4, 14        6, 450       55, 14,500
+        42           0.03, 1      0.1, 1       0.1, 1       0.15, 17
+        62           0.05, 1      0.15, 1      0.15, 2      0.25, 50
+        90           0.05, 1      0.25, 1      0.3, 4       0.45, 110
+        200          0.1, 1       0.4, 2       0.55, 20     1.8, 550
+        400          0.2, 1       0.9, 3       1.1, 75      6.5, 2,300
+        1,000        0.5, 2       2.6, 14      4.7, 450     too many for 16 MB
 
-    One error takes at most 0.1 ms up to 90 characters, and 1.2 ms with three erasures at 1,000. From 135
-    characters on a text may have far more near ones beside three erasures that are 33 locations apart.
+    One error takes at most 0.15 ms up to 90 characters, and 1.5 ms at 1,000. From 135 characters on a text may
+    have far more near ones beside three erasures that are 33 locations apart. No search takes more than 0.2
+    seconds: it ends where 16 MB do not suffice.
 
     What helps a person is a short list: at most two errors with two erasures up to 90 characters, two errors with
     one erasure in longer texts, and one error with three erasures. Beyond these the right text is one of many
@@ -385,7 +386,7 @@ def nearest(
     cannot be stopped: until the search, or the program, ends, it keeps a processor and its memory.
 
     Raises what `check` raises, but for `WrongChecksum`; `ValueError` of more than two errors, a place that the text
-    does not have, or a negative location, and `MemoryError` if the texts are too many for 256 MB.
+    does not have, or a negative location, and `MemoryError` if the texts are too many for 16 MB.
     """
     _number(checksum)
     wrong = whole(errors, "errors")

@@ -236,6 +236,11 @@ class Columns(unittest.TestCase):
         rows = [ADDRESS, ADDRESS.upper()]
         self.assertEqual(columns.decode(rows, hrp="tb").numbers.tolist(), [49, 49])
         self.assertEqual(columns.decode(rows).hrp_lengths.tolist(), [2, 2])
+        for part, number in (("q" * 84, 12), ("b\xe9", 13), (" bc", 14), ("Bc", 15), ("\ud800", 2)):
+            for given in (rows, []):
+                with self.assertRaises(Refused) as caught:
+                    columns.decode(given, hrp=part)
+                self.assertEqual(caught.exception.number, number)
 
     def test_refusals(self):
         for wrong in ("text", b"bytes", [1], [["a"]], np.array([1.5]), 3):

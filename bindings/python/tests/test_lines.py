@@ -1,6 +1,6 @@
 """Compares the package with the stored runs of the programs b32, c32, mend and vector_rows, whose replies reference
 models gave as well: in the folder that B32_LINES names, files b32-lines, b32-replies and so on; without it,
-those of this repository. Of vector_rows, the rows of texts that one edit makes are read."""
+those of this repository. Of vector_rows, the rows of long texts and of texts that one edit makes are read."""
 
 import os
 import re
@@ -187,12 +187,13 @@ class Lines(unittest.TestCase):
         self.assertEqual(printed(b"\n"), (0, b"err 3\n", b""))
         self.assertEqual(printed(b"decode a12uel5l", "b32"), (0, b"ok a -\n", b""))
         self.assertEqual(printed(b"decode a12uel5l\r\n"), (0, b"err 21\n", b""))
-        long = b"decode " + b"q" * 200_000
-        for length, reply in ((16_383, b"err 23\n"), (16_384, b"err 23\n"), (16_385, b"err 1\n"), (len(long), b"err 1\n")):
-            line = long[:length]
-            self.assertEqual(printed(line), (0, reply, b""))
-            self.assertEqual(printed(line + b"\n"), (0, reply, b""))
-            self.assertEqual(printed(line + b"\n" + line), (0, 2 * reply, b""))
+        for program, limit, front, fine in (("b32", 4096, b"decode ", b"err 23\n"), ("mend", 16_384, b"checksum ", b"err 23\n")):
+            long = front + b"q" * 200_000
+            for length, reply in ((limit - 1, fine), (limit, fine), (limit + 1, b"err 1\n"), (len(long), b"err 1\n")):
+                line = long[:length]
+                self.assertEqual(printed(line, program), (0, reply, b""))
+                self.assertEqual(printed(line + b"\n", program), (0, reply, b""))
+                self.assertEqual(printed(line + b"\n" + line, program), (0, 2 * reply, b""))
         self.assertEqual(printed(b"checksum \xff\n", "mend"), (0, b"err 2\n", b""))
         for words in (("b33",), ("b32", "mend")):
             status, out, said = printed(b"", *words)
@@ -215,6 +216,19 @@ class Lines(unittest.TestCase):
             self.assertEqual(program.stdout.readline(), reply)
         program.stdin.close()
         self.assertEqual(program.wait(), 0)
+
+    def test_long_texts(self):
+        # These are the last rows: lines of b32 that would be too long.
+        lines = stored("vector_rows", "lines").read_text("utf-8").splitlines()
+        wanted = [line.split("|")[1:] for line in lines if line.startswith("long|")]
+        replies = stored("vector_rows", "replies").read_text("utf-8").splitlines()[-len(wanted) :]
+        for (name, *words), reply in zip(wanted, replies):
+            try:
+                answer = _lines.PROGRAMS["b32"][name].answer(*words)
+            except Refused as refused:
+                answer = f"err {refused.number}"
+            self.assertEqual(answer, reply, (name, words[0], words[-1][:60]))
+        self.assertEqual(len(wanted), 20)
 
     def test_edits(self):
         # These rows have a line of reply each. Behind them stand those of a block, and what it prints.

@@ -92,6 +92,26 @@ class Liquid(unittest.TestCase):
                 liquid.nearest(ADDRESS, errors=count)
             self.assertEqual(str(raised.exception), f"errors must be 0, 1, 2 or 3, not {count}")
 
+    def test_looks_for_as_many_errors_as_one_correction_has(self):
+        wrong = [(10, "q"), (50, "3"), (90, "y")]
+        unreadable = [(place, "?") for place in (5, 17, 29, 41, 53, 65, 77, 85)]
+        for known, count in ((0, 3), (1, 2), (2, 2), (3, 1), (4, 1), (5, 0), (6, 0)):
+            text = with_others([*unreadable[:known], *wrong[:count]])
+            self.assertEqual([it.text for it in liquid.nearest(text)], [ADDRESS])
+            if count < 3:
+                self.assertEqual(liquid.nearest(with_others([*unreadable[:known], *wrong[: count + 1]])), [])
+            # Twice the errors and those that are known are seven at most.
+            most = (7 - known) // 2
+            self.assertIn(ADDRESS, [it.text for it in liquid.nearest(text, errors=most)])
+            if most < 3:
+                with self.assertRaises(ValueError) as raised:
+                    liquid.nearest(text, errors=most + 1)
+                beside = f"beside {known} that are known to be wrong"
+                self.assertEqual(str(raised.exception), f"errors must be at most {most} {beside}, not {most + 1}")
+        for known in (7, 8):
+            for errors_beside in (None, 0, 3):
+                self.assertEqual(liquid.nearest(with_others(unreadable[:known]), errors=errors_beside), [])
+
 
 if __name__ == "__main__":
     unittest.main()

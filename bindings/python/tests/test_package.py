@@ -654,6 +654,10 @@ class Suggestions(unittest.TestCase):
             self.assertEqual(str(found), f"characters 21 and 22: {right[21]} and {right[20]} are swapped")
         for text in ("a12uel5l", "q1" * 46, ADDRESS.replace("w5", "??").replace("za", "??")):
             self.assertEqual(segwit.suggest(text, "bc"), [])
+        # The text itself may be of any form, here version 1 with 33 bytes, and a guess may not.
+        other = segwit.encode("bc", 1, bytes(33))
+        self.assertEqual(segwit.suggest(other, "bc"), [(other, (), None)])
+        self.assertEqual(segwit.suggest(other[:-1] + ("q" if other[-1] != "q" else "p"), "bc"), [])
 
     def test_refuses(self):
         for hrp, error in (("", errors.HrpEmpty), ("aB", errors.HrpMixedCase), ("a b", errors.HrpInvalid), ("\xe9", errors.HrpNotAscii)):

@@ -130,6 +130,19 @@ class Split(unittest.TestCase):
                 with self.assertRaises(errors.BadRandom):
                     codex32.split(BYTES, 2, 3, test, _random=bytes(size) or bytearray())
 
+    def test_random_bytes_that_are_all_equal_are_refused(self):
+        for byte in (b"\0", b"\x55", b"\xff"):
+            with self.assertRaises(errors.EqualRandom):
+                codex32.split(BYTES, 2, 3, "test", _random=26 * byte)
+            with self.assertRaises(errors.EqualRandom):
+                codex32.split(BYTES, 9, 9, "test", _random=208 * byte)
+            for other in (25 * byte + b"1", b"1" + 25 * byte):
+                self.assertEqual(len(codex32.split(BYTES, 2, 3, "test", _random=other)), 3)
+        # The system's are no others.
+        for identifier in ("test", None):
+            with mock.patch("secrets.randbits", return_value=7), self.assertRaises(errors.EqualRandom):
+                codex32.split(BYTES, 2, 3, identifier)
+
     def test_says_which_argument_is_wrong(self):
         for given, words in [
             (("x", 2, 2), "secret must be bytes, a bytearray or a memoryview, not str"),

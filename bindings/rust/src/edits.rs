@@ -125,7 +125,7 @@ impl NearEdit {
 ///
 /// The [`Refusal`] that [`UncheckedHrpstring::new`](crate::primitives::decode::UncheckedHrpstring::new) has:
 /// the text may have any length, and any number of characters behind its separator. Else
-/// [`Refusal::NoMemory`] or [`Refusal::NoRoom`] if the texts are too many for 256 MB.
+/// [`Refusal::NoMemory`] or [`Refusal::NoRoom`] if the texts are too many for 16 MB.
 pub fn near_edits<Ck: CorrectingChecksum>(s: &str) -> Result<Vec<NearEdit>, Refusal> {
     near_edits_from::<Ck>(LEAST_TEXTS, s)
 }

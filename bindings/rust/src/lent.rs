@@ -10,7 +10,7 @@ const LEAST_MEMORY: usize = 64 << 10;
 const OF_A_CHARACTER: usize = 512;
 
 /// The bytes that a call is lent at most, and that its texts fill at most.
-pub const MOST_MEMORY: usize = 256 << 20;
+pub const MOST_MEMORY: usize = 16 << 20;
 
 // The factor by which they grow if they do not suffice.
 const GROWTH: usize = 8;
@@ -91,6 +91,6 @@ mod tests {
             Err(Refusal::NoMemory)
         });
         assert_eq!(answer, Err(Refusal::NoMemory));
-        assert_eq!(sizes, [1 << 20, 8 << 20, 64 << 20, MOST_MEMORY]);
+        assert_eq!(sizes, [1 << 20, 8 << 20, MOST_MEMORY]);
     }
 }

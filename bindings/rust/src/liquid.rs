@@ -120,15 +120,15 @@ pub fn correct(s: &str, erasures: &[usize]) -> Result<Correction, Refusal> {
 }
 
 /// Lists the texts near to a mistyped one, in its case: all that Blech32 accepts and that differ from it in at
-/// most `errors` characters, 0 to 3, of the data part outside `erasures`, of which there may be six. Where twice
-/// `errors`, with the number of erasures, is at most six, there is one text at most. The order is that of
-/// [`nearest`](crate::nearest). Three errors beside three erasures or more take seconds.
+/// most `errors` characters, 0 to 3, of the data part outside `erasures`, of which there may be six. Twice
+/// `errors`, with the number of erasures, may be at most seven. Where it is at most six, there is one text at
+/// most: with three errors without erasures, two beside one or two, one beside three or four, and none beside
+/// five or six. The order is that of [`nearest`](crate::nearest).
 ///
 /// # Errors
 ///
-/// [`Refusal::BadNumber`] of more than three errors; else the first of: the text is not in the grammar;
-/// [`Refusal::TextTooLong`] above 1,023 characters; [`Refusal::NoChecksum`]; else [`Refusal::NoMemory`] or
-/// [`Refusal::NoRoom`] if the texts are too many for 256 MB.
+/// [`Refusal::BadNumber`] of more errors; else the first of: the text is not in the grammar;
+/// [`Refusal::TextTooLong`] above 1,023 characters; [`Refusal::NoChecksum`].
 #[cfg(feature = "correct")]
 pub fn nearest(s: &str, erasures: &[usize], errors: usize) -> Result<Vec<Correction>, Refusal> {
     nearest_by(s, erasures, |memory, texts| {

@@ -102,7 +102,7 @@ refusals! {
         NoBlindingKey = 71, "a confidential address has less than 33 bytes behind its version";
         NotInDescriptor = 80, "a character may not stand in a descriptor, or not in its checksum";
         NoDescriptorChecksum = 88, "the text does not end in # and eight characters";
-        DescriptorTooLong = 89, "the text has more than 7500 characters, too many to be mended";
+        DescriptorTooLong = 89, "the text has more than 7500 characters (1400 for two changes), too many to be mended";
         NoMemory = 91, "the lent memory did not suffice";
         NoRoom = 92, "a buffer is too small";
         // End of what it writes.

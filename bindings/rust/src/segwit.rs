@@ -59,14 +59,23 @@ pub fn encode(
     witness_version: Fe32,
     witness_program: &[u8],
 ) -> Result<String, EncodeError> {
-    validate_witness_version(witness_version)?;
-    validate_witness_program_length(witness_program.len(), witness_version)?;
-    encoded_length(hrp, witness_version, witness_program)?;
     let mut buffer = [0; MAX_STRING_LENGTH];
     match put(&hrp, witness_version, witness_program, &mut buffer) {
         Ok(address) => Ok((*address).to_owned()),
-        Err(_) => Err(EncodeError::Fmt(fmt::Error)),
+        Err(_) => Err(first_refusal(hrp, witness_version, witness_program)),
     }
+}
+
+// Why there is no such address. The library refuses the part first, and the crate last.
+#[cold]
+fn first_refusal(hrp: Hrp, version: Fe32, program: &[u8]) -> EncodeError {
+    let tested = || {
+        validate_witness_version(version)?;
+        validate_witness_program_length(program.len(), version)?;
+        encoded_length(hrp, version, program)?;
+        Ok(())
+    };
+    tested().err().unwrap_or(EncodeError::Fmt(fmt::Error))
 }
 
 /// Encodes a segwit address of version 0.

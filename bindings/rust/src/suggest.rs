@@ -51,7 +51,9 @@ impl fmt::Display for Suggestion {
 }
 
 /// Did you mean? Lists the segwit addresses of a network, that of a human-readable part, that someone may have
-/// meant who typed a text. Each `?` in it is a character that cannot be read.
+/// meant who typed a text. Each `?` in it is a character that cannot be read. They are of forms in use (version 0
+/// with 20 or 32 bytes, version 1 with 32), but for the text itself, which is listed if it is an address of the
+/// network.
 ///
 /// Tried are the texts with up to two other characters, as many as are unlikely to be right by chance beside what
 /// cannot be read, and if there is no `?`, those that one edit makes: a character left out, one put in, or two

@@ -19,6 +19,7 @@ import (
 	"bech32proved/segwit"
 )
 
+// lineLimit is how many bytes a line has at most; one of b32 has fewer.
 const lineLimit = 16384
 
 // notAnswered is the number of a refusal of the programs.
@@ -181,6 +182,9 @@ func correct(words []string) (string, error) {
 	return reply + " " + lowered(mended.Text), nil
 }
 
+// Of more near texts than this, as many are listed, the first, and that there are more.
+const mostTexts = 1000
+
 func nearest(words []string) (string, error) {
 	checksum, err := checksumOf(words[0])
 	if err != nil {
@@ -204,11 +208,15 @@ func nearest(words []string) (string, error) {
 		return "ok", nil
 	}
 	near, err := bech32proved.Nearest(checksum, words[1], most, places...)
-	reply := "ok"
-	for _, it := range near {
-		reply += " " + lowered(it.Text)
+	reply := []string{"ok"}
+	for at, it := range near {
+		if at == mostTexts {
+			reply = append(reply, "more")
+			break
+		}
+		reply = append(reply, lowered(it.Text))
 	}
-	return reply, err
+	return strings.Join(reply, " "), err
 }
 
 var done = map[bech32proved.Kind]string{
@@ -310,6 +318,15 @@ func hasUnreadable(text string) bool {
 	return strings.ContainsRune(text[strings.LastIndexByte(text, '1')+1:], '?') && strings.ContainsRune(text, '1')
 }
 
+// isTooMuch is whether so many errors are not looked for beside the locations of a word, which differ where their pieces do.
+func isTooMuch(word string, errors int) bool {
+	different := map[string]bool{}
+	for _, piece := range strings.Split(word, ",") {
+		different[piece] = true
+	}
+	return len(different) <= 6 && 2*errors+len(different) > 7
+}
+
 func liquidNearest(words []string) (string, error) {
 	var places []int
 	var err error
@@ -322,6 +339,9 @@ func liquidNearest(words []string) (string, error) {
 	most, err := numberOf(words[len(words)-1], 3)
 	if err != nil {
 		return "", err
+	}
+	if len(words) == 3 && isTooMuch(words[1], most) {
+		return "", badWord
 	}
 	if hasUnreadable(words[0]) {
 		_, err := liquid.Decode(words[0])
@@ -514,8 +534,16 @@ var c32 = map[string]command{
 	}},
 }
 
-func reply(commands map[string]command, line string) (string, error) {
-	if len(line) > lineLimit {
+// program is the commands of a program, and the bytes that a line of it has at most.
+type program struct {
+	commands  map[string]command
+	lineLimit int
+}
+
+var programs = map[string]program{"b32": {b32, 4096}, "c32": {c32, lineLimit}, "mend": {mend, lineLimit}}
+
+func reply(it program, line string) (string, error) {
+	if len(line) > it.lineLimit {
 		return "", lineTooLong
 	}
 	if !utf8.ValidString(line) {
@@ -531,11 +559,11 @@ func reply(commands map[string]command, line string) (string, error) {
 			}
 		}
 	}
-	it, is := commands[words[0]]
-	if count := len(words) - 1; !is || count < it.least || count > it.most {
+	asked, is := it.commands[words[0]]
+	if count := len(words) - 1; !is || count < asked.least || count > asked.most {
 		return "", noCommand
 	}
-	return it.reply(words[1:])
+	return asked.reply(words[1:])
 }
 
 // numbered is the number of a refusal.
@@ -554,14 +582,14 @@ func numbered(err error) string {
 	return err.Error()
 }
 
-func run(commands map[string]command, in io.Reader, out io.Writer) error {
+func run(it program, in io.Reader, out io.Writer) error {
 	lines, replies := bufio.NewReaderSize(in, 1<<16), bufio.NewWriter(out)
 	for {
 		line, err := lines.ReadString('\n')
 		if err != nil && line == "" {
 			return replies.Flush()
 		}
-		said, refused := reply(commands, strings.TrimSuffix(line, "\n"))
+		said, refused := reply(it, strings.TrimSuffix(line, "\n"))
 		if refused != nil {
 			said = "err " + numbered(refused)
 		}
@@ -572,8 +600,7 @@ func run(commands map[string]command, in io.Reader, out io.Writer) error {
 }
 
 func main() {
-	programs := map[string]map[string]command{"b32": b32, "c32": c32, "mend": mend}
-	if len(os.Args) != 2 || programs[os.Args[1]] == nil {
+	if len(os.Args) != 2 || programs[os.Args[1]].commands == nil {
 		fmt.Fprintln(os.Stderr, "usage: lines b32|c32|mend, with commands on standard input")
 		os.Exit(2)
 	}

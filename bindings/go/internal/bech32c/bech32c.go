@@ -205,6 +205,7 @@ const (
 	MaxLiquidErrors   = C.BECH32_MAX_LIQUID_ERRORS
 	DescriptorLength  = C.BECH32_DESCRIPTOR_CHECKSUM
 	MaxDescriptor     = C.BECH32_MAX_DESCRIPTOR
+	MaxDescriptorTwo  = C.BECH32_MAX_DESCRIPTOR_TWO
 	Suggestions       = C.BECH32_SUGGESTIONS
 	NearEditsLeast    = C.BECH32_NEAR_EDITS
 	Alphabet          = C.BECH32_ALPHABET
@@ -384,8 +385,8 @@ func Correct(checksum uint32, text string, erasures []int) (string, []int, []byt
 	return string(mended[:length]), intsOf(locations[:count]), values[:count], uint32(number)
 }
 
-// The most memory that a search is lent: no text needs more.
-const mostMemory = 1 << 30
+// The most memory that a search is lent, 16 MiB. A text can need more (bech32.h): its search is refused then.
+const mostMemory = 1 << 24
 
 // found searches with more room for texts where there are more, and with more memory where it did not suffice. The
 // texts, of a length each, are cut.
@@ -398,7 +399,7 @@ func found(memory, most, each int, search func(memory, texts []byte, count *C.si
 		case number == NoRoom:
 			most = int(count)
 		case number == NoMemory && memory < mostMemory:
-			memory *= 2
+			memory = min(2*memory, mostMemory)
 		case number != 0:
 			return nil, number
 		default:
@@ -450,7 +451,7 @@ func editsFound(memory, most, length, places int,
 		case number == NoRoom:
 			most = int(count)
 		case number == NoMemory && memory < mostMemory:
-			memory *= 2
+			memory = min(2*memory, mostMemory)
 		case number != 0:
 			return nil, number
 		default:
@@ -522,7 +523,7 @@ func DescriptorMend(text string, changed int) ([]Edited, uint32) {
 
 // DescriptorMendTwo calls bech32_descriptor_mend_two: two places for each text, from the front. It puts no kinds.
 func DescriptorMendTwo(text string) ([]Edited, uint32) {
-	memory := int(C.go_mend_two_memory(C.size_t(min(len(text), MaxDescriptor))))
+	memory := int(C.go_mend_two_memory(C.size_t(min(len(text), MaxDescriptorTwo))))
 	return editsFound(memory, NearEditsLeast, len(text), 2,
 		func(memory, kinds []byte, where []C.size_t, texts []byte, count *C.size_t) C.uint32_t {
 			return C.go_descriptor_mend_two(text, first(memory), C.size_t(len(memory)), firstSize(where),
@@ -604,24 +605,28 @@ func (r *Rows) add(start int, offsets []C.int32_t, made []byte) {
 	r.Bytes = append(r.Bytes, made[:offsets[len(offsets)-1]]...)
 }
 
-// SegwitDecodeMany calls bech32_segwit_decode_many, for at most mostRows rows at once: also the versions, and the lengths of
-// the human-readable parts.
-func SegwitDecodeMany(column *Column, hrp string) (*Rows, []byte, []byte) {
+// SegwitDecodeMany calls bech32_segwit_decode_many, for at most mostRows rows at once: also the versions, the lengths of the
+// human-readable parts, and the number of a wanted part that is none.
+func SegwitDecodeMany(column *Column, hrp string) (*Rows, []byte, []byte, uint32) {
 	count := column.Count()
 	decoded, versions, lengths := newRows(count), make([]byte, count), make([]byte, count)
 	most := min(count, mostRows)
 	own, programs := make([]C.int32_t, most+1), make([]byte, most*MaxProgram)
 	offsets, size, rows, layout := column.laid()
-	for start := 0; start < count; start += mostRows {
+	// A column without rows has one call as well, which tests the part.
+	for start := 0; start == 0 || start < count; start += mostRows {
 		end := min(start+mostRows, count)
 		var done C.size_t
-		C.go_segwit_decode_many(first(column.Bytes), C.size_t(len(column.Bytes)), offsets, size, first(column.Validity),
+		number := C.go_segwit_decode_many(first(column.Bytes), C.size_t(len(column.Bytes)), offsets, size, first(column.Validity),
 			C.size_t(len(column.Validity)), rows, layout, C.size_t(column.First+start), hrp,
 			first(decoded.Numbers[start:end]), C.size_t(end-start), first(versions[start:end]), first(lengths[start:end]),
 			&own[0], first(programs), C.size_t(len(programs)), &done)
+		if number != 0 {
+			return nil, nil, nil, uint32(number)
+		}
 		decoded.add(start, own[:end-start+1], programs)
 	}
-	return decoded, versions, lengths
+	return decoded, versions, lengths, 0
 }
 
 // SegwitEncodeMany calls bech32_segwit_encode_many, for at most mostRows rows at once. Of a version that no element has, the

@@ -194,9 +194,13 @@ public final class Codex32 {
      * Splits a secret of 16 to 44 bytes, or of 63 or 64, into shares, of which any {@code threshold} recover it, and fewer say
      * nothing of it. The random bytes are those of {@link SecureRandom}.
      *
+     * <p>If the identifier is null, it is drawn. Give each split a new one: shares of two splits of one secret with the same
+     * identifier are taken for one set, and {@link #recover} returns other bytes, without an exception. To get more shares
+     * later, derive them from enough shares.
+     *
      * @param identifier four characters of the alphabet, or null to draw them
      * @throws RefusedException the first of {@code BAD_THRESHOLD}, {@code BAD_IDENTIFIER}, {@code BAD_SHARE_INDEX} (the
-     *     threshold is 0), {@code BAD_SIZE}, {@code BAD_COUNT}
+     *     threshold is 0), {@code BAD_SIZE}, {@code BAD_COUNT}, {@code EQUAL_RANDOM} (the system's random bytes are all equal)
      */
     public static List<byte[]> split(byte[] secret, int threshold, int count, String identifier) {
         String name = identifier;
@@ -221,7 +225,8 @@ public final class Codex32 {
      * Splits a secret by random bytes of yours: {@code (threshold - 1) * ((8 * secret.length + 4) / 5)} of them, for one call
      * alone.
      *
-     * @throws RefusedException what the other method throws, and then {@code BAD_RANDOM}
+     * @throws RefusedException what the other method throws, with {@code BAD_RANDOM} before {@code EQUAL_RANDOM}: bytes that
+     *     are all equal were never filled in
      */
     public static List<byte[]> split(byte[] secret, int threshold, int count, String identifier, byte[] random) {
         byte[] texts = new byte[MAX_SPLIT * TEXT_SIZE];

@@ -103,7 +103,7 @@ public final class Columns {
         }
     }
 
-    /** Whatever the rows are, a call here returns 0, or there is no memory to pin an array. */
+    /** Whatever the rows are, a call here returns 0, or the part is none, or there is no memory to pin an array. */
     static void wanted(int number) {
         if (number != 0) {
             throw new RefusedException(Refusal.of(number, false));
@@ -129,6 +129,8 @@ public final class Columns {
      * Refusal#OTHER_HRP}. Where it is null any is accepted, and yours to compare.
      *
      * @throws IllegalArgumentException if the human-readable part is empty
+     * @throws RefusedException if it is none: {@code HRP_TOO_LONG}, {@code HRP_NOT_ASCII}, {@code HRP_INVALID} or {@code
+     *     HRP_MIXED_CASE}
      */
     public static Addresses decode(Column texts, String hrp) {
         if (hrp != null && hrp.isEmpty()) {
@@ -142,7 +144,8 @@ public final class Columns {
         int[] offsets = new int[Math.min(ROWS, rows) + 1];
         byte[] programs = new byte[Math.min(ROWS, rows) * MAX_PROGRAM];
         Gathered gathered = new Gathered(rows);
-        for (int at = 0; at < rows; at += ROWS) {
+        // A column without rows has one call as well, which tests the part.
+        for (int at = 0; at == 0 || at < rows; at += ROWS) {
             int count = Math.min(ROWS, rows - at);
             wanted(Native.segwitDecodeMany(texts.bytes, texts.offsets, texts.validity, texts.lengths, texts.layout,
                     texts.first + at, part, numbers, versions, lengths, at, count, offsets, programs));

@@ -66,8 +66,9 @@ public final class LiquidAddress {
 
     /**
      * Lists the texts near to a mistyped one, as {@link Bech32#nearest} does, by Blech32: with at most {@code errors} other
-     * characters, 0 to 3, beside at most six that are known to be wrong. Where twice {@code errors}, with their number, is at
-     * most six, there is one text at most. It need not be an address: parse it.
+     * characters, 0 to 3, beside at most six that are known to be wrong. Twice {@code errors}, with their number, may be at
+     * most seven. Where it is at most six, there is one text at most: with three errors beside none that are known to be wrong,
+     * two beside one or two, one beside three or four, and none beside five or six. It need not be an address: parse it.
      *
      * @throws RefusedException what {@link #parse} throws up to {@code HRP_MIXED_CASE}, {@code TEXT_TOO_LONG}, {@code
      *     NO_CHECKSUM}, {@code BAD_NUMBER} of more errors, {@code NO_MEMORY}

@@ -77,6 +77,8 @@ public enum Refusal {
     BAD_RANDOM(66, true),
     /** An element is above 31. */
     BAD_ELEMENT(67, false),
+    /** The random bytes are all equal. */
+    EQUAL_RANDOM(68, true),
     /** A confidential address of another witness version than 0 is not supported. */
     UNSUPPORTED_VERSION(70, false),
     /** A confidential address has less than 33 bytes behind its version. */
@@ -99,7 +101,7 @@ public enum Refusal {
     BITS_LEFT_OVER(87, true),
     /** The text does not end in {@code #} and eight characters. */
     NO_DESCRIPTOR_CHECKSUM(88, false),
-    /** The text has more than 7500 characters, too many to be mended. */
+    /** The text has more than 7500 characters (1400 for two changes), too many to be mended. */
     DESCRIPTOR_TOO_LONG(89, false),
     /** The lent memory did not suffice. */
     NO_MEMORY(91, false),

@@ -6,7 +6,9 @@ import java.util.List;
 
 /** Searches of the library, with more room where there are more texts, and more memory where it does not suffice. */
 final class Search {
-    private static final int MOST_MEMORY = 1 << 30;
+    /** The most memory that a search is lent, 16 MiB. A text can need more (bech32.h): its search is refused then. */
+    private static final int MOST_MEMORY = 1 << 24;
+
     static final int UNCHANGED = 0;
     static final int SWAPPED = 1;
     static final int LEFT_OUT = 2;
@@ -46,7 +48,7 @@ final class Search {
         if (memory >= MOST_MEMORY) {
             throw tooMuch();
         }
-        return 2 * memory;
+        return Math.min(2 * memory, MOST_MEMORY);
     }
 
     private static int times(int count, int each) {

@@ -135,7 +135,8 @@ public final class SegwitAddress {
 
     /**
      * Did you mean? Lists the addresses of a network, that of {@code hrp} in either case, that someone may have meant who typed
-     * a text, in which each {@code ?} cannot be read. Each is a guess: show it, and let people compare it with the source
+     * a text, in which each {@code ?} cannot be read. They are of forms in use (version 0 with 20 or 32 bytes, version 1 with
+     * 32), but for the text itself, which is listed if it is an address of the network. Each is a guess: show it, and let people compare it with the source
      * before it is paid to. The C header bech32.h says which texts are tried, and in which order.
      *
      * @throws RefusedException the first of, of {@code hrp}: {@code HRP_EMPTY}, {@code HRP_TOO_LONG}, {@code HRP_NOT_ASCII},

@@ -102,6 +102,10 @@ class Bech32Test {
         assertEquals(address.toString(), meant.text());
         assertEquals("[character 5: ? becomes w, character 28: t becomes r]", meant.changes().toString());
         assertNull(meant.edit());
+        // The text itself may be of any form, here version 1 with 33 bytes, and a guess may not.
+        String other = "bc1paek6qccmuwpjh9cyknjdedcyr06lgvh83edqsvtpmaaahwx2cszk7d0t7tv";
+        assertEquals(other, SegwitAddress.suggest(other, "bc").get(0).text());
+        assertEquals(0, SegwitAddress.suggest(other.replace("7tv", "7tw"), "bc").size());
     }
 
     @Test
@@ -111,6 +115,9 @@ class Bech32Test {
         assertEquals(text, address.toString());
         assertEquals(address, LiquidAddress.of("lq", 0, address.key(), address.program()));
         assertEquals(text, LiquidAddress.nearest(text.replace("er278", "qr2q8"), 3).get(0).text());
+        assertEquals(text, LiquidAddress.nearest(text, 3, 5).get(0).text());
+        assertEquals(Refusal.BAD_NUMBER, refusal(() -> LiquidAddress.nearest(text, 3, 5, 6)));
+        assertEquals(0, LiquidAddress.nearest(text, 3, 5, 6, 7, 8, 9, 10, 11).size());
         assertEquals(Refusal.NO_BLINDING_KEY, refusal(() -> LiquidAddress.of("lq", 0, new byte[32], address.program())));
     }
 
@@ -161,7 +168,9 @@ class Bech32Test {
         for (String text : List.of(right, "xaw(deadbeef)#89f8spxm", "", "#", "raw(deadbeef)")) {
             assertTrue(Descriptor.mendTwo(text).isEmpty(), text);
         }
-        assertEquals(Refusal.DESCRIPTOR_TOO_LONG, refusal(() -> Descriptor.mendTwo("x".repeat(7501))));
+        assertTrue(Descriptor.mendTwo("x".repeat(1400)).isEmpty());
+        assertEquals(Refusal.DESCRIPTOR_TOO_LONG, refusal(() -> Descriptor.mendTwo("x".repeat(1401))));
+        assertEquals(Refusal.DESCRIPTOR_TOO_LONG, refusal(() -> Descriptor.mend("x".repeat(7501), 1)));
         assertEquals(89, Refusal.DESCRIPTOR_TOO_LONG.number());
         // The call itself, with less memory, and less room, than it wants.
         byte[] wrong = "sawqdeadbeef)#89f8spxm".getBytes(StandardCharsets.US_ASCII);
@@ -185,6 +194,10 @@ class Bech32Test {
         assertArrayEquals(secret, Codex32.recover(shares.get(2), shares.get(0)));
         assertEquals(Refusal.TOO_FEW_SHARES, refusal(() -> Codex32.recover(shares.get(1))));
         assertEquals(Refusal.BAD_RANDOM, refusal(() -> Codex32.split(secret, 2, 3, "test", new byte[1])));
+        byte[] random = new byte[26];
+        assertEquals(Refusal.EQUAL_RANDOM, refusal(() -> Codex32.split(secret, 2, 3, "test", random)));
+        random[25] = 1;
+        assertEquals(3, Codex32.split(secret, 2, 3, "test", random).size());
         assertEquals(Refusal.BAD_LENGTHS, refusal(() -> Codex32.recover(new byte[33][48])));
         byte[] text = "ms10testsxxxxxxxxxxxxxxxxxxxxxxxxxx4nzvca9cmczlw".getBytes(StandardCharsets.US_ASCII);
         try (Codex32.Share share = Codex32.share(text)) {

@@ -205,6 +205,15 @@ class ColumnsTest {
         assertEquals(0, Columns.decode(none, "bc").programs().size());
         assertEquals(0, Columns.encode("bc", new byte[0], Column.ofPrograms(Collections.emptyList())).texts().size());
         assertThrows(IllegalArgumentException.class, () -> Columns.decode(none, ""));
+        Column one = Column.ofTexts(List.of(ADDRESS));
+        String[] parts = {"q".repeat(84), "b\u00e9", " bc", "Bc"};
+        Refusal[] refusals = {Refusal.HRP_TOO_LONG, Refusal.HRP_NOT_ASCII, Refusal.HRP_INVALID, Refusal.HRP_MIXED_CASE};
+        for (int at = 0; at < parts.length; at++) {
+            String part = parts[at];
+            for (Column column : List.of(none, one)) {
+                assertEquals(refusals[at], assertThrows(RefusedException.class, () -> Columns.decode(column, part)).refusal());
+            }
+        }
         assertThrows(IllegalArgumentException.class, () -> Column.fixed(new byte[1], 0, null));
         for (int[] it : new int[][] {{-1, 1}, {1, 0}, {0, 3}}) {
             Column two = Column.ofTexts(List.of(ADDRESS, ADDRESS));

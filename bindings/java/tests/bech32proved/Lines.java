@@ -11,6 +11,7 @@ import java.nio.charset.CharacterCodingException;
 import java.nio.charset.StandardCharsets;
 import java.util.Arrays;
 import java.util.HashMap;
+import java.util.List;
 import java.util.Locale;
 import java.util.Map;
 import java.util.Set;
@@ -18,7 +19,9 @@ import java.util.function.Supplier;
 
 /** Replies to each line of standard input as the programs b32, c32 and mend do: java bech32proved.Lines b32|c32|mend. */
 public final class Lines {
+    /** A line has so many bytes at most; one of b32 has fewer. */
     private static final int LINE_LIMIT = 16384;
+    private static final int B32_LINE_LIMIT = 4096;
 
     /** The commands whose one word is the rest of the line, which may have spaces, or be empty. */
     private static final Set<String> TAKE_REST = Set.of("descriptor", "descriptor-check", "descriptor-checksum");
@@ -177,6 +180,9 @@ public final class Lines {
         }
     }
 
+    /** Of more near texts than this, as many are listed, the first, and that there are more. */
+    private static final int MOST_TEXTS = 1000;
+
     private static String nearest(String[] words) {
         Checksum checksum = checksum(words[0]);
         String text = words[1];
@@ -184,12 +190,11 @@ public final class Lines {
         int errors = number(words[words.length - 1], 2);
         refuseUnreadable(checksum, text);
         StringBuilder reply = new StringBuilder("ok");
-        for (Correction near : Bech32.nearest(checksum, text, errors, known(places))) {
-            if (areAll(places)) {
-                reply.append(" ").append(lower(near.text()));
-            }
+        List<Correction> found = Bech32.nearest(checksum, text, errors, known(places));
+        for (Correction near : found.subList(0, areAll(places) ? Math.min(found.size(), MOST_TEXTS) : 0)) {
+            reply.append(" ").append(lower(near.text()));
         }
-        return reply.toString();
+        return reply.append(areAll(places) && found.size() > MOST_TEXTS ? " more" : "").toString();
     }
 
     private static String done(Edit edit) {
@@ -266,6 +271,10 @@ public final class Lines {
         String text = words[0];
         int[] places = words.length == 3 ? places(words[1], text) : new int[0];
         int errors = number(words[words.length - 1], 3);
+        long different = words.length == 3 ? Arrays.stream(words[1].split(",")).distinct().count() : 0;
+        if (different <= 6 && 2 * errors + different > 7) {
+            throw new NotAnswered(4);
+        }
         if (new Typed(text).hasUnreadable()) {
             LiquidAddress.parse(text);
         }
@@ -438,8 +447,8 @@ public final class Lines {
         return all;
     }
 
-    private static String reply(Map<String, Command> commands, byte[] line) {
-        if (line.length > LINE_LIMIT) {
+    private static String reply(Map<String, Command> commands, int limit, byte[] line) {
+        if (line.length > limit) {
             throw new NotAnswered(1);
         }
         String text;
@@ -458,9 +467,9 @@ public final class Lines {
         return it.reply.to(Arrays.copyOfRange(words, 1, words.length));
     }
 
-    private static String answer(Map<String, Command> commands, byte[] line) {
+    private static String answer(Map<String, Command> commands, int limit, byte[] line) {
         try {
-            return reply(commands, line);
+            return reply(commands, limit, line);
         } catch (NotAnswered refused) {
             return "err " + refused.number;
         } catch (RefusedException refused) {
@@ -471,6 +480,7 @@ public final class Lines {
     /** Replies to each line of an input. */
     static void run(String program, InputStream from, OutputStream to) throws IOException {
         Map<String, Command> commands = commands(program);
+        int limit = program.equals("b32") ? B32_LINE_LIMIT : LINE_LIMIT;
         ByteArrayOutputStream line = new ByteArrayOutputStream();
         try (InputStream in = new BufferedInputStream(from); OutputStream out = new BufferedOutputStream(to)) {
             for (int read = in.read(); read >= 0 || line.size() > 0; read = in.read()) {
@@ -478,7 +488,7 @@ public final class Lines {
                     line.write(read);
                     continue;
                 }
-                out.write(answer(commands, line.toByteArray()).getBytes(StandardCharsets.UTF_8));
+                out.write(answer(commands, limit, line.toByteArray()).getBytes(StandardCharsets.UTF_8));
                 out.write('\n');
                 line.reset();
             }

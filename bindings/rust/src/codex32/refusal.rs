@@ -44,6 +44,7 @@ crate::refusal::refusals! {
         Contradiction = 64, "the shares contradict each other";
         BadCount = 65, "there are fewer shares than the threshold, or more than 31";
         BadRandom = 66, "there are not as many random bytes as characters are drawn";
+        EqualRandom = 68, "the random bytes are all equal";
         NotMs = 81, "the human-readable part is not ms";
         BadLength = 82, "a codex32 string has 48 to 93 characters, a long one 125 to 127";
         BadThreshold = 83, "the threshold is neither 0 nor a digit from 2 to 9";

@@ -51,10 +51,14 @@ impl Error for SplitError {
 /// characters gives these. So they say nothing about the secret if the random bytes are uniform, which no proof
 /// says.
 ///
+/// The identifier is the same in all shares: None draws its four characters at random, which the standard leaves
+/// free. Give each split a new one. Shares of two splits of one secret with the same identifier are taken for one
+/// set, and [`recover`] returns other bytes, without an error. To get more shares later, derive them from enough
+/// shares (`derive`).
+///
 /// The shares are in lower case, at the first indices of `acdefghjklmnpqrtuvwxyz023456789`. The characters of
 /// those before the `threshold`-th are random bytes' lowest five bits, the others are derived from these and
-/// the secret's own string (BIP-93). The identifier is the same in all shares, and tells them from those of
-/// another secret: None draws its four characters at random too, which the standard leaves free.
+/// the secret's own string (BIP-93).
 ///
 /// The random bytes are the operating system's: on Unix those of `/dev/urandom`, once `/dev/random` has said
 /// that the system has gathered enough. If it has none, there is no share. On other systems none are taken:
@@ -76,7 +80,8 @@ impl Error for SplitError {
 /// # Errors
 ///
 /// The first of: [`Refusal::BadShareIndex`] if the threshold is 0; [`Refusal::BadSize`] of another number of
-/// bytes; [`Refusal::BadCount`] of fewer shares than the threshold, or more than 31; [`SplitError::Random`].
+/// bytes; [`Refusal::BadCount`] of fewer shares than the threshold, or more than 31; [`SplitError::Random`];
+/// [`Refusal::EqualRandom`] if the system's random bytes are all equal.
 pub fn split(
     secret: &[u8],
     threshold: Threshold,
@@ -104,7 +109,8 @@ pub fn split(
 ///
 /// # Errors
 ///
-/// Those of [`split`], but [`Refusal::BadRandom`] of another number of random bytes in place of the last.
+/// Those of [`split`], but in place of the last [`Refusal::BadRandom`] of another number of random bytes, and then
+/// [`Refusal::EqualRandom`] of random bytes that are all equal: nobody filled them.
 pub fn split_with(
     secret: &[u8],
     threshold: Threshold,

@@ -174,6 +174,8 @@ fn refuses() {
         (16, 2, 31, 27, Refusal::BadRandom),
         (16, 3, 3, 26, Refusal::BadRandom),
         (64, 2, 2, 0, Refusal::BadRandom),
+        (16, 2, 2, 26, Refusal::EqualRandom),
+        (64, 9, 31, 824, Refusal::EqualRandom),
     ] {
         let found = refused(size, number, count, random);
         assert_eq!(found, refusal, "{size} {number} {count} {random}");

@@ -173,7 +173,8 @@ fn mends_two_changed_characters() {
     for text in [RIGHT, "xaw(deadbeef)#89f8spxm", "", "#", "raw(deadbeef)"] {
         assert!(mend_two(text).unwrap().is_empty(), "{text}");
     }
-    let error = mend_two(&"x".repeat(7501)).unwrap_err();
+    assert!(mend_two(&"x".repeat(1400)).unwrap().is_empty());
+    let error = mend_two(&"x".repeat(1401)).unwrap_err();
     assert_eq!(error, Error::TooLong);
     assert_eq!(Refusal::from(error).number(), 89);
 }

@@ -95,6 +95,20 @@ fn mends_up_to_the_bound() {
     let seven: Vec<usize> = (0..7).collect();
     assert_eq!(liquid::correct(ADDRESS, &seven), Err(Refusal::NoCorrection));
     assert_eq!(liquid::nearest(ADDRESS, &[], 4), Err(Refusal::BadNumber));
+    // Twice the errors and the different erasures are seven at most; beside more than six nothing is near.
+    for (erasures, errors) in [(1, 3), (3, 2), (5, 1), (6, 0)] {
+        let near = liquid::nearest(ADDRESS, &seven[..erasures], errors).unwrap();
+        assert_eq!(near[0].as_str(), ADDRESS);
+        assert_eq!(
+            liquid::nearest(ADDRESS, &seven[..erasures.min(5) + 1], errors.max(1)),
+            Err(Refusal::BadNumber)
+        );
+    }
+    let twice = liquid::nearest(ADDRESS, &[3, 3, 3], 3).unwrap();
+    assert_eq!(twice[0].as_str(), ADDRESS);
+    for errors in [0, 3] {
+        assert_eq!(liquid::nearest(ADDRESS, &seven, errors), Ok(vec![]));
+    }
     assert_eq!(
         liquid::correct("lq1qb", &[]),
         Err(Refusal::InvalidCharacter)

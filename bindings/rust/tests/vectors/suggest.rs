@@ -39,6 +39,13 @@ fn suggests_addresses() {
         // Another network, and what is no address.
         assert_eq!(segwit::suggest(right, hrp::TB), Ok(vec![]));
     }
+    // The text itself may be of any form, here version 1 with 33 bytes, and a guess may not.
+    let other = "bc1paek6qccmuwpjh9cyknjdedcyr06lgvh83edqsvtpmaaahwx2cszk7d0t7tv";
+    assert_eq!(words(other, other), "");
+    assert_eq!(
+        segwit::suggest(&other.replace("7tv", "7tw"), hrp::BC),
+        Ok(vec![])
+    );
     assert_eq!(
         segwit::suggest("a12uel5l", Hrp::parse("a").unwrap()),
         Ok(vec![])
