@@ -10,7 +10,7 @@
 #include "limit.h"
 #include "text.h"
 
-#define LINE_LIMIT 16384u
+#define LINE_LIMIT 4096u
 #define MOST_WORDS 4u
 #define REPLY 2048u        /* the longest reply is shorter */
 #define ROOM (1u << 16)    /* of each end */

@@ -56,6 +56,7 @@ pub const CONTRADICTION: u32 = 64;
 pub const BAD_COUNT: u32 = 65;
 pub const BAD_RANDOM: u32 = 66;
 pub const BAD_ELEMENT: u32 = 67;
+pub const EQUAL_RANDOM: u32 = 68;
 pub const UNSUPPORTED_VERSION: u32 = 70;
 pub const NO_BLINDING_KEY: u32 = 71;
 pub const NOT_IN_DESCRIPTOR: u32 = 80;

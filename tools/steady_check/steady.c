@@ -7,7 +7,7 @@
  * It prints a line for each part. The status is 1 where a call has another answer than is expected, 2 where there was a
  * report.
  *
- * What may be told is told by ten functions of the library, which valgrind calls through those that TELLS, TELLS_PLACE and
+ * What may be told is told by eleven functions of the library, which valgrind calls through those that TELLS, TELLS_PLACE and
  * TELLS_RESIDUE make here: what they return is known from there on, of a place the character that stands there, and of the
  * error residue all that they put. The library has no word of that in it, and any other way from a secret to a branch is
  * reported. A call without reports takes the same way for all secrets of its form, so that one secret of each will do.
@@ -26,7 +26,7 @@ static int is_wrong;
 
 /* ---- what is told */
 
-static unsigned long told[10];
+static unsigned long told[11];
 
 /* The texts of the call under way. */
 static const char *given;
@@ -138,6 +138,8 @@ TELLS(7, codex32ZcZcunreadableZcZcisZuunreadable, isZuunreadableZa)
 TELLS(8, codex32ZcZcdamagedZcZcisZudataZucharacter, isZudataZucharacterZa)
 /* and to what finds its errors, by how much the checksum is wrong */
 TELLS_RESIDUE(9, codex32ZusteadyZutextsZcZcresidueZcZcputZuerrorZuresidue, putZuerrorZuresidueZa)
+/* whether all random bytes are equal */
+TELLS(10, codex32ZcZcsplittingZcZcareZuequal, areZuequalZa)
 
 /* ---- secrets */
 
@@ -275,19 +277,35 @@ static void recover(const Set *set, size_t room, uint32_t expected)
 }
 
 /* Of the secret and of the random bytes nothing is known; how many there are is. */
-static void split(size_t count, unsigned threshold, size_t drawn, size_t shares, size_t room, uint32_t expected)
+static void split_by(const uint8_t *drawn_bytes, size_t count, unsigned threshold, size_t drawn, size_t shares, size_t room,
+                     uint32_t expected)
 {
     uint8_t bytes[2 * MOST_BYTES], random[8 * LONGEST], texts[CODEX32_MAX_SPLIT * LONGEST];
     size_t size;
     for (size_t i = 0; i < count; i++)
         bytes[i] = any_byte();
-    for (size_t i = 0; i < drawn; i++)
-        random[i] = any_byte();
+    memcpy(random, drawn_bytes, drawn);
     hide_bytes(bytes, count);
     hide_bytes(random, drawn);
     uint32_t number = codex32_split(threshold, (const uint8_t *)"test", 4, bytes, count, random, drawn, shares, texts, room,
                                     &size);
     expect(number, expected, "codex32_split", count);
+}
+
+static void split(size_t count, unsigned threshold, size_t drawn, size_t shares, size_t room, uint32_t expected)
+{
+    uint8_t random[8 * LONGEST];
+    for (size_t i = 0; i < drawn; i++)
+        random[i] = any_byte();
+    split_by(random, count, threshold, drawn, shares, room, expected);
+}
+
+/* With random bytes that are all equal. */
+static void split_unfilled(size_t count, unsigned threshold, size_t shares, size_t room)
+{
+    uint8_t random[8 * LONGEST];
+    memset(random, any_byte(), sizeof random);
+    split_by(random, count, threshold, CODEX32_RANDOM_SIZE(threshold, count), shares, room, CODEX32_EQUAL_RANDOM);
 }
 
 /* ---- sets of strings */
@@ -519,6 +537,7 @@ static void refusals(void)
         size_t drawn = CODEX32_RANDOM_SIZE(3, count), room = 4 * CODEX32_ENCODED_SIZE(count);
         split(count, 3, drawn, 4, room - 1, CODEX32_NO_ROOM);
         split(count, 3, drawn - 1, 4, room, CODEX32_BAD_RANDOM);
+        split_unfilled(count, 3, 4, room);
         split(count, 3, drawn, 2, room, CODEX32_BAD_COUNT);
     }
     for (size_t count = 0; count <= MOST_BYTES + 2; count += count == 15 ? 30 : count == 62 ? 3 : 1)
@@ -703,13 +722,13 @@ static const Part parts[] = {
     {NULL, NULL},
 };
 
-/* Where one of the ten is in line, or has another name, what it tells is reported. */
+/* Where one of the eleven is in line, or has another name, what it tells is reported. */
 static void show_told(void)
 {
     static const char *names[] = {"are_of_alphabet", "has_both_cases", "is_target",         "are_elements_of",  "data_start",
                                   "graphic_count",   "is_separator",   "is_unreadable",     "is_data_character",
-                                  "put_error_residue"};
-    for (int i = 0; i < 10; i++)
+                                  "put_error_residue", "are_equal"};
+    for (int i = 0; i < 11; i++)
         printf("told %lu times by %s\n", told[i], names[i]);
 }
 

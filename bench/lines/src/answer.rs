@@ -5,8 +5,8 @@ use bech32::primitives::decode::{CheckedHrpstring, CheckedHrpstringError};
 use bech32::{segwit, Bech32, Bech32m, Checksum, CorrectableError, Fe32, Hrp};
 use std::panic::{catch_unwind, AssertUnwindSafe};
 
-/// A line may have this many bytes.
-pub const LINE_LIMIT: usize = 16384;
+/// A line of `b32` may have this many bytes.
+pub const LINE_LIMIT: usize = 4096;
 
 const HIGHEST_VERSION: usize = 31;
 const HIGHEST_LOCATION: usize = 1022;
@@ -14,17 +14,18 @@ const HIGHEST_LOCATION: usize = 1022;
 /// The reply to a command, or the number of its refusal.
 pub type Answer = Result<String, u32>;
 
-/// The reply to a line, without its end, by what answers its words. It is `panic` where that panics.
-pub fn reply_by(line: &[u8], command: fn(&[&str]) -> Answer) -> String {
-    match catch_unwind(AssertUnwindSafe(|| answer(line, command))) {
+/// The reply to a line, without its end, by how many bytes it may have and what answers its words. It is `panic` where that
+/// panics.
+pub fn reply_by(line: &[u8], limit: usize, command: fn(&[&str]) -> Answer) -> String {
+    match catch_unwind(AssertUnwindSafe(|| answer(line, limit, command))) {
         Ok(Ok(reply)) => reply,
         Ok(Err(number)) => format!("err {number}"),
         Err(_) => "panic".to_string(),
     }
 }
 
-fn answer(line: &[u8], command: fn(&[&str]) -> Answer) -> Answer {
-    if line.len() > LINE_LIMIT {
+fn answer(line: &[u8], limit: usize, command: fn(&[&str]) -> Answer) -> Answer {
+    if line.len() > limit {
         return Err(numbers::LINE_TOO_LONG);
     }
     let line = std::str::from_utf8(line).map_err(|_| numbers::LINE_NOT_UTF8)?;
@@ -37,7 +38,7 @@ fn answer(line: &[u8], command: fn(&[&str]) -> Answer) -> Answer {
 
 /// The reply of `b32` to a line, without its end. It is `panic` where the crate panics.
 pub fn reply(line: &[u8]) -> String {
-    reply_by(line, |words| match words[..] {
+    reply_by(line, LINE_LIMIT, |words| match words[..] {
         ["encode", "bech32", hrp, hex] => encode::<Bech32>(hrp, hex),
         ["encode", "bech32m", hrp, hex] => encode::<Bech32m>(hrp, hex),
         ["decode", text] => decode(text),

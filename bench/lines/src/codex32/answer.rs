@@ -10,6 +10,9 @@ use bech32::{CorrectableError, Fe32};
 /// The characters before the parts' own: the human-readable part and the separator.
 pub const FRONT: &str = "ms1";
 
+/// A line of `c32` may have this many bytes.
+pub const LINE_LIMIT: usize = 16384;
+
 /// A string of codex32 has at least this many characters.
 pub const SHORTEST: usize = 48;
 
@@ -21,7 +24,7 @@ pub const CHECKSUM: usize = 13;
 
 /// The reply to a line, without its end. It is `panic` where the crate panics.
 pub fn reply(line: &[u8]) -> String {
-    reply_by(line, |words| match words[..] {
+    reply_by(line, LINE_LIMIT, |words| match words[..] {
         ["parse", text] => parse(text),
         ["propose", text] => propose(text),
         _ => Err(numbers::NO_COMMAND),

@@ -1,7 +1,7 @@
 //! The lines of a run for `c32`, each made from the run's seed and its own number.
 
+use super::answer::LINE_LIMIT;
 use super::texts::{damaged, typed};
-use crate::answer::LINE_LIMIT;
 use crate::lines::edit;
 use crate::random::Random;
 
