@@ -100,9 +100,13 @@ extern "C" {
 /* What else is done to a descriptor (bech32_descriptor_mend). */
 #define BECH32_CHANGED 4u /* the character at place is changed */
 
-/* The characters of a descriptor's checksum, and the most of a text that bech32_descriptor_mend mends. */
+/*
+ * The characters of a descriptor's checksum, and the most of a text that bech32_descriptor_mend mends, and
+ * that bech32_descriptor_mend_two mends.
+ */
 #define BECH32_DESCRIPTOR_CHECKSUM 8u
 #define BECH32_MAX_DESCRIPTOR 7500u
+#define BECH32_MAX_DESCRIPTOR_TWO 1400u
 
 /* Return values. */
 #define BECH32_OK 0u
@@ -144,7 +148,8 @@ extern "C" {
 #define BECH32_NOT_IN_DESCRIPTOR 80u    /* a character may not stand in a descriptor, or not in its
                                            checksum */
 #define BECH32_NO_DESCRIPTOR_CHECKSUM 88u /* the text does not end in `#` and eight characters */
-#define BECH32_DESCRIPTOR_TOO_LONG 89u  /* the text has more than 7500 characters, too many to be mended */
+#define BECH32_DESCRIPTOR_TOO_LONG 89u  /* the text has more than 7500 characters (1400 for two changes),
+                                           too many to be mended */
 #define BECH32_NO_MEMORY 91u            /* the lent memory did not suffice */
 #define BECH32_NO_ROOM 92u              /* a buffer is too small */
 
@@ -334,7 +339,8 @@ typedef struct {
  * From 135 characters on the figures are large, 860 megabytes at 1,023: beside three erasures that are 33
  * locations apart, a text that is accepted with other characters there has that many near texts. Beside
  * most other erasures it has text_length * text_length / 68. You may lend less, and call again with more
- * if that does not suffice.
+ * if that does not suffice. A server lends little, and so bounds the time as well: with 16 megabytes, which
+ * suffice for 9,000 near texts of 800 characters, no call took more than 0.1 seconds.
  */
 #define BECH32_NEAREST_TEXTS(text_length)                             \
     (64u + 3u * (text_length) + (text_length) * (text_length) / 64u + \
@@ -383,14 +389,14 @@ typedef struct {
  *
  *                 one error, erasures   | two errors, erasures         | texts, erasures
  *     characters     0, 1     2      3  |     0      1      2      3   |     2        3
- *         42        0.002  0.02   0.04  |  0.05    0.1    0.1   0.12   |     1       17
- *         62        0.002  0.03   0.06  |   0.1    0.2    0.2    0.2   |     2       50
- *         90        0.003  0.04   0.09  |  0.15   0.25   0.25   0.35   |     4      110
- *        200        0.004   0.1   0.25  |   0.6    0.6    0.7    1.3   |    20      550
- *        400        0.004   0.3    0.7  |   1.7    1.4    1.6    5.5   |    75    2,300
- *      1,000        0.007   1.1    1.2  |   7.6    3.9    5.7     54   |   450   14,500
+ *         42        0.002  0.03   0.05  |  0.03    0.1    0.1   0.15   |     1       17
+ *         62        0.002  0.07   0.08  |  0.04   0.15   0.15   0.25   |     2       50
+ *         90        0.003   0.1   0.15  |  0.05   0.25    0.3   0.45   |     4      110
+ *        200        0.003  0.25    0.3  |   0.1    0.4   0.55    1.8   |    20      550
+ *        400        0.004   0.4    0.4  |  0.16    0.9    1.1    6.5   |    75    2,300
+ *      1,000        0.005   1.5    0.9  |  0.45    2.6    4.7     68   |   450   14,500
  *
- * The most texts that there are (above) take 0.7 ms at 92 characters, 55 at 400, and 750 at 1,000.
+ * The most texts that there are (above) take 0.3 ms at 92 characters, 85 at 400, and 1,250 at 1,023.
  *
  * Refusals, the first that applies: 4; 2; 21, 22, 23, 11 to 15; 31, 32; 92; and 91 in place of 0 or 92
  * where `memory` does not suffice. If the function keeps the memory (above), `texts` may have changed;
@@ -468,24 +474,29 @@ uint32_t bech32_liquid_decode(const uint8_t *text, size_t text_length, uint8_t *
 #define BECH32_MAX_LIQUID_ERRORS 3u
 
 /*
- * These bytes suffice for bech32_liquid_nearest in up to BECH32_MAX_LIQUID_TEXT characters where twice the
- * errors, plus the number of erasures, is at most seven, or the errors are at most two (tested, not proved).
+ * These bytes suffice for bech32_liquid_nearest (tested, not proved: tools/nearest makes calls at every
+ * length, with every number of errors and erasures, also 33 locations apart, in exactly this memory).
  */
 #define BECH32_LIQUID_NEAREST_MEMORY(text_length) (24576u + 1024u * (text_length))
 
 /*
  * Lists the texts near to a mistyped one, as bech32_nearest does, but by Blech32, beside at most six
  * erasures, and with `errors` from 0 to BECH32_MAX_LIQUID_ERRORS: all that Blech32 accepts and that differ
- * from it in at most `errors` characters of the data part outside `erasures`.
+ * from it in at most `errors` characters of the data part outside `erasures`. Twice `errors`, plus the
+ * number of different erasures, may be at most seven: three errors beside one erasure at most, two beside
+ * three, one beside five. If there are more than six different erasures, or one is not in the data part,
+ * no text is near.
  *
  * To mend a text, choose `errors` so that twice this number, plus the number of erasures, is at most six: up
  * to three without erasures, none beside six. There is then one text at most: the right one, if no more of
  * its characters are wrong. It may not be what was meant: show it, and ask. It need not be an address:
- * decode it. With more errors there may be several texts, though in an address there seldom are. Three errors
- * beside two erasures or more take long: each value of an error is tried by itself.
+ * decode it. With one more erasure there may be several texts, but no more than two in an address. A call
+ * takes at most 2 ms at BECH32_MAX_LIQUID_TEXT characters and 40 at 1,023 (at 2.5 GHz).
  *
- * Refusals, the first that applies: 4 (more than three errors); 2; 21, 22, 23, 11 to 15; 31, 32; 92; and
- * 91 in place of 0 or 92 where `memory` does not suffice. If the function keeps the memory, `texts` may
+ * Refusals, the first that applies: 4 (more than three errors, or more than seven, where twice `errors`
+ * and the number of at most six different erasures are added); 2; 21, 22, 23, 11 to 15; 31, 32; 92; and
+ * 91 in place of 0 or 92 where `memory` does not suffice, which never comes with more than six different
+ * erasures, nor with one that is not in the data part. If the function keeps the memory, `texts` may
  * have changed.
  */
 uint32_t bech32_liquid_nearest(const uint8_t *text, size_t text_length, const size_t *erasures,
@@ -542,10 +553,10 @@ uint32_t bech32_descriptor_check(const uint8_t *text, size_t text_length, size_t
  * (text_length + 1) bytes are always enough for `texts`. It may be that none is what was meant: compare
  * it with the wallet's addresses.
  *
- * Refusals, the first that applies: 4 (`changed` is above 1); 89; 92; and 91 in place of 0 or 92 where
- * the text has at least eight bytes and `memory` does not suffice. If the function keeps the memory
- * (above), the buffers may have changed; with every other refusal but 92, and with every other 91, they
- * are as they were.
+ * Refusals, the first that applies: 4 (`changed` is above 1); 89 (more than 7,500 bytes); 92; and 91 in
+ * place of 0 or 92 where the text has at least eight bytes and `memory` does not suffice. If the
+ * function keeps the memory (above), the buffers may have changed; with every other refusal but 92, and
+ * with every other 91, they are as they were.
  */
 uint32_t bech32_descriptor_mend(const uint8_t *text, size_t text_length, size_t changed,
                                 bech32_memory *memory, uint8_t *kinds, size_t kinds_room,
@@ -558,7 +569,12 @@ uint32_t bech32_descriptor_mend(const uint8_t *text, size_t text_length, size_t 
 /*
  * Lists the texts that two changed characters make of this one and that bech32_descriptor_check accepts.
  * Either may be in the checksum, or be the `#`. A character is a byte: any bytes of the text may be wrong.
- * Try bech32_descriptor_mend first, which takes a tenth of the time and of the memory.
+ * Try bech32_descriptor_mend first: where two characters are wrong, it takes about a 15th of the time at 30
+ * characters and a 150th at 1,400 (`tools/worst mend`), and less memory.
+ *
+ * A text of BECH32_MAX_DESCRIPTOR_TWO bytes has 8,574,612,720 others that differ from it in two characters
+ * and have characters where they may stand, and the checksum accepts one in 2^40. So of 100 such texts that
+ * are no mistyped descriptors at most one is expected to be answered with any text; of shorter ones, fewer.
  *
  * *count, which may be 0, is their number. Of each both places are put into `places`, the lower one first,
  * from 0 for the first character. The new texts, each of text_length bytes, are put into `texts` one behind
@@ -569,9 +585,10 @@ uint32_t bech32_descriptor_mend(const uint8_t *text, size_t text_length, size_t 
  * both buffers have room for. places_room is a number of items. It may be that none is what was meant:
  * compare it with the wallet's addresses.
  *
- * Refusals, the first that applies: 89; 92; and 91 in place of 0 or 92 where the text has at least nine
- * bytes and `memory` does not suffice. If the function keeps the memory (above), the buffers may have
- * changed; with every other refusal but 92, and with every other 91, they are as they were.
+ * Refusals, the first that applies: 89 (more than 1,400 bytes); 92; and 91 in place of 0 or 92 where the
+ * text has at least nine bytes and `memory` does not suffice. If the function keeps the memory (above),
+ * the buffers may have changed; with every other refusal but 92, and with every other 91, they are as
+ * they were.
  */
 uint32_t bech32_descriptor_mend_two(const uint8_t *text, size_t text_length, bech32_memory *memory,
                                     size_t *places, size_t places_room, uint8_t *texts,
@@ -583,13 +600,17 @@ uint32_t bech32_descriptor_mend_two(const uint8_t *text, size_t text_length, bec
 
 /*
  * Did you mean? Lists the segwit addresses of a network that someone who typed `text` may have meant: those
- * that bech32_segwit_decode accepts and whose human-readable part is `hrp`, in either case. Each `?` in the
+ * that bech32_segwit_decode accepts, whose human-readable part is `hrp`, in either case, and whose form is in
+ * use: version 0 with a program of 20 or 32 bytes (BIP-141), or version 1 with one of 32 (BIP-341). An output
+ * of another form has no rule for spending, and anyone may take it, so no guess is of such a form. The text
+ * itself is no guess: if it is an address of that network, it is listed, whatever its form. Each `?` in the
  * text is a character that cannot be read; its letters may be of either case, but not of both.
  *
  * The texts tried are, in this order, those that bech32_nearest lists by BECH32_BECH32, and by
  * BECH32_BECH32M, with the `?` as erasures and as many errors as are said below; then, of a text without
  * `?`, those that bech32_near_edits lists by BECH32_BECH32, and by BECH32_BECH32M. The addresses among them
- * are listed in that order, each once.
+ * are listed in that order, each once. Two neighbours that are swapped differ at two characters, so
+ * bech32_nearest lists them where two errors are looked for: they are BECH32_SWAPPED, and stand in its order.
  *
  * *count, which may be 0, is their number. For each, what is done (BECH32_UNCHANGED, BECH32_SWAPPED,
  * BECH32_LEFT_OUT, BECH32_PUT_IN or BECH32_REPLACED) is put into `kinds`, and where into `places`: the first
@@ -609,8 +630,12 @@ uint32_t bech32_descriptor_mend_two(const uint8_t *text, size_t text_length, bec
  *
  * If they do not all fit (92), *count is the number of all, and the first of them are put, as many as all
  * three buffers have room for. kinds_room and places_room are numbers of items; *count times 90 bytes are
- * always enough for `texts`. The right address is among them if no more than these errors are wrong. Each is
- * a guess: show it, and let people compare it with the source before it is paid to.
+ * always enough for `texts`.
+ *
+ * If `text` is in the grammar, and no more characters of its data part are wrong than are looked for, the
+ * right address is among them, where its form is in use. That is not so of an error in the human-readable
+ * part, or of a character that may not stand in the data part. Each is a guess: show it, and let people
+ * compare it with the source before it is paid to.
  *
  * Refusals, the first that applies: of `hrp` 2, 11 to 15; of `text` 2; 21, 22, 23, 11 to 15 (each `?`
  * read as `0`; of a text of more than 91 bytes nothing of these); 92; and 91 in place of 0 or 92 where
@@ -691,7 +716,8 @@ uint32_t bech32_check_many(uint32_t checksum, const bech32_column *texts, size_t
  * of the rows that are put: count, or with 92 fewer, as many as all buffers have room for, and as have less
  * than 2^31 bytes of programs. The call for the others begins at first + *done.
  *
- * Refusals, the first that applies: 4 (no such layout, or there are no such rows); 92.
+ * Refusals, the first that applies: 4 (no such layout, or there are no such rows); of `hrp`, if
+ * hrp_length is not 0, 2, 12 to 15; 92.
  */
 uint32_t bech32_segwit_decode_many(const bech32_column *texts, size_t first, const uint8_t *hrp,
                                    size_t hrp_length, uint8_t *numbers, size_t count, uint8_t *versions,

@@ -112,6 +112,7 @@ extern "C" {
 #define CODEX32_CONTRADICTION 64u       /* the shares contradict each other */
 #define CODEX32_BAD_COUNT 65u           /* there are fewer shares than the threshold, or more than 31 */
 #define CODEX32_BAD_RANDOM 66u          /* there are not as many random bytes as characters are drawn */
+#define CODEX32_EQUAL_RANDOM 68u        /* the random bytes are all equal */
 #define CODEX32_NOT_MS 81u              /* the human-readable part is not `ms` */
 #define CODEX32_BAD_LENGTH 82u          /* a codex32 string has 48 to 93 characters, a long one 125 to
                                            127 */
@@ -218,9 +219,14 @@ uint32_t codex32_derive(uint32_t share_index, const uint8_t *texts, size_t texts
  * the length of each, CODEX32_ENCODED_SIZE(secret_length). From the first on, their indices are `a`, `c`,
  * `d` and so on in `acdefghjklmnpqrtuvwxyz023456789`.
  *
+ * Give each split a new identifier, drawn at random: shares of two splits of one secret with the same
+ * identifier are taken for one set, and as many of them as the threshold recover other bytes, with
+ * CODEX32_OK. To get more shares later, derive them from enough shares (codex32_derive).
+ *
  * `random` has CODEX32_RANDOM_SIZE(threshold, secret_length) bytes, random_length of them. Take them
  * from the operating system's generator of random numbers, make no shares where it fails, use them for
- * one call alone, and wipe them, and the secret, when you are done. The payloads of all shares before
+ * one call alone, and wipe them, and the secret, when you are done. Bytes that are all equal were never
+ * filled in, and are refused: with them, anyone would know the first shares. The payloads of all shares before
  * the `threshold`-th are drawn: each random byte gives one of their characters, in their order, by its
  * lowest five bits. The other shares are derived from these and the secret's own string, that of
  * codex32_encode at CODEX32_SECRET_INDEX.
@@ -230,7 +236,7 @@ uint32_t codex32_derive(uint32_t share_index, const uint8_t *texts, size_t texts
  * characters gives these shares. So they say nothing of the secret, nor do fewer, if the random bytes are
  * uniform. No proof says that they are.
  *
- * Refusals, the first that applies: 83, 85, 84 (the threshold is 0), 55, 65, 66, 92.
+ * Refusals, the first that applies: 83, 85, 84 (the threshold is 0), 55, 65, 66, 68, 92.
  */
 uint32_t codex32_split(uint32_t threshold, const uint8_t *identifier, size_t identifier_length,
                        const uint8_t *secret, size_t secret_length, const uint8_t *random,
