@@ -252,10 +252,10 @@ uint32_t correct_line(const Words* words, Out* out) {
     });
 }
 
-/* No search is lent more: 16 MiB. A text can need 860 megabytes (bech32.h): its search ends in 91. */
+/* The most memory that a search is lent, 16 MiB. A string that needs more (up to 860 MB, see bech32.h) is refused with 91. */
 constexpr size_t most_memory = size_t{1} << 24;
 
-/* Of more near texts than this, as many are put, the first, and that there are more. */
+/* The most near texts that are listed. If there are more, the reply lists the first ones and ends in ` more`. */
 constexpr size_t most_texts = 1000;
 
 /* Memory that is lent, and where results are put: they grow where they do not suffice. */

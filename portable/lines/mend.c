@@ -4,10 +4,10 @@
 #include "bech32.h"
 #include "lines.h"
 
-/* No call is lent more: 16 MiB. A text can need 860 megabytes (bech32.h): its search ends in 91. */
+/* The most memory that a call is lent, 16 MiB. A string that needs more (up to 860 MB, see bech32.h) is refused with 91. */
 #define MOST_MEMORY ((size_t)1 << 24)
 
-/* Of more near texts than this, as many are put, the first, and that there are more. */
+/* The most near texts that are listed. If there are more, the reply lists the first ones and ends in ` more`. */
 #define MOST_TEXTS 1000u
 
 /* Memory that is lent, of which the first 15 bytes at most are left out, since it begins at a multiple of 16. */

@@ -140,7 +140,7 @@ func Recover(texts ...[]byte) ([]byte, error) {
 }
 
 // Split makes count shares of a secret of 16 to 44 bytes, or of 63 or 64, of which any threshold of them recover it, and
-// fewer say nothing of it. The random bytes are those of crypto/rand: where it fails, there are no shares.
+// fewer reveal nothing about it. The random bytes come from crypto/rand; if that fails, Split returns its error and no shares.
 //
 // The identifier is four characters of the alphabet; if it is empty, it is drawn. Give each split a new one. Shares of two
 // splits of one secret with the same identifier are taken for one set, and Recover returns other bytes, without an error. To

@@ -318,7 +318,7 @@ func hasUnreadable(text string) bool {
 	return strings.ContainsRune(text[strings.LastIndexByte(text, '1')+1:], '?') && strings.ContainsRune(text, '1')
 }
 
-// isTooMuch is whether so many errors are not looked for beside the locations of a word, which differ where their pieces do.
+// isTooMuch reports whether a search for this many errors is refused, given the locations in a word; equal ones count once.
 func isTooMuch(word string, errors int) bool {
 	different := map[string]bool{}
 	for _, piece := range strings.Split(word, ",") {
