@@ -29,10 +29,10 @@ use Rattle.bech32_bch.proofs.Counting.{alone, outside, outside_located}
 use Rattle.bech32_bch.proofs.Patterns.{all_located}
 use Rattle.bech32_bch.proofs.Places.{all_of, length-locations, look, mem_left, mem_right, mem_split, once-append, once_fits}
 use Rattle.bech32_bch.proofs.Usable.{usable}
-use Rattle.bech32_near_search.specs.Nearest.{AreRising, IsEarlier, IsNearListing, IsNearestList}
-use Rattle.bech32_near_search.proofs.NearestAlone.{Leaves, gathered_leaves}
-use Rattle.bech32_near_search.proofs.NearestListing.{all_weaker}
-use Rattle.bech32_near_search.proofs.NearestPatterns.{gathered_of}
+use Rattle.bech32_near.specs.search.Nearest.{AreRising, IsEarlier, IsNearListing, IsNearestList}
+use Rattle.bech32_near.proofs.NearestAlone.{Leaves, gathered_leaves}
+use Rattle.bech32_near.proofs.NearestListing.{all_weaker}
+use Rattle.bech32_near.proofs.NearestPatterns.{gathered_of}
 use Rattle.bech32_near.specs.NearTexts.{AreNearTexts}
 use Rattle.bech32_calls.specs.Checksums.{ForChecksum}
 use Rattle.bech32_calls.specs.Correct.{bound}

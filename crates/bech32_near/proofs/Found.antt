@@ -25,7 +25,7 @@ use Rattle.bech32_correction.specs.MendedElements.{mended}
 use Rattle.bech32_correction.specs.Mistyped.{HasResidue, IsMendedText}
 use Rattle.bech32_correction.proofs.Sums.{length-mended}
 use Rattle.bech32_bch.specs.Detection.{DetectsFour}
-use Rattle.bech32_near_search.specs.Nearest.{AreRising, IsEarlier, IsNearListing}
+use Rattle.bech32_near.specs.search.Nearest.{AreRising, IsEarlier, IsNearListing}
 use Rattle.bech32_near.specs.NearTexts.{AreNearTexts, AreNearestListings, AsksForTwo, IsNearText, IsSearched, differences_outside}
 use Rattle.bech32_near.proofs.Differing.{added_value, differences, few_mended}
 use Rattle.bech32_near.proofs.Nearby.{accepted_parts, all_accepted, below, given_erasures, itself_found, listed_value, mended_spelling, near_found, nothing_found, searched_or_not}

@@ -10,10 +10,10 @@ use Rattle.bech32_bch.specs.Erasures.{AreErasures}
 use Rattle.bech32_bch.proofs.Places.{drop_first}
 use Rattle.bech32_checksum.specs.Code.{Code}
 use Rattle.bech32_finders.specs.Question.{IsAnswerTo, Question}
-use Rattle.bech32_near_search.specs.Nearest.{AreNearest}
-use Rattle.bech32_near_search.proofs.NearestAdded.{AreWithin, IsAnswer, alone_not, alone_one, found_gathered}
-use Rattle.bech32_near_search.proofs.NearestAnswers.{answer_of, are_nearest}
-use Rattle.bech32_near_search.proofs.NearestListing.{each_below, length-placed}
+use Rattle.bech32_near.specs.search.Nearest.{AreNearest}
+use Rattle.bech32_near.proofs.NearestAdded.{AreWithin, IsAnswer, alone_not, alone_one, found_gathered}
+use Rattle.bech32_near.proofs.NearestAnswers.{answer_of, are_nearest}
+use Rattle.bech32_near.proofs.NearestListing.{each_below, length-placed}
 
 module _ (code : Code) (bound : ℕ) (q : Question) (errors : ℕ) (erased : AreErasures q.window q.erasures) (few : 2 * errors + length q.erasures ≤ bound) (answer : Option (List (ℕ × Fe32)))
     (is : IsAnswerTo code bound q answer) where

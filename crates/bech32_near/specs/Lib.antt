@@ -1,1 +1,2 @@
 pub mod NearTexts
+pub mod search

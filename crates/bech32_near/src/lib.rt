@@ -1,10 +1,11 @@
-//! All texts near a mistyped one that a checksum accepts.
+//! All texts near a mistyped one that a checksum accepts, and the steps that gather their patterns.
 //!
 //! Below it: `bech32_correction`, `bech32_detect`.
 //! Standard: BIP-173, Checksum design.
 #![tactic(auto)]
 
 mod listings;
+pub mod search;
 mod texts;
 
 pub use self::listings::nearest_listings;

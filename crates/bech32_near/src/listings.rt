@@ -3,15 +3,15 @@
 ghost use Rattle.std.specs.Prelude.{◌≡◌, ◌≤◌, ◌+◌, ◌*◌, ◌↔◌, ◌∷◌, ℕ, List, [], length, IfOk, IsOk, IsTrue, MatchOption, OnErr};
 ghost use Rattle.bech32_bch.specs.Detection.{DetectsFour};
 ghost use Rattle.bech32_bch.specs.Erasures.{AreErasures};
-ghost use Rattle.bech32_near_search.specs.Nearest.{AreNearest};
+ghost use Rattle.bech32_near.specs.search.Nearest.{AreNearest};
 ghost use Rattle.bech32_gf.specs.Fe32 as fe32;
 ghost use Rattle.bech32_gf.specs.declared.gf32.Fe32.{Fe32 as Element};
 
+use crate::search::{Listings, gathered};
 use bech32_bch::ShortVec;
 use bech32_checksum::Checksum;
 use bech32_correction::Corrector;
 use bech32_gf::gf32::Fe32;
-use bech32_near_search::{Listings, gathered};
 use std::alloc::{AllocError, Allocator};
 
 // Whether this many errors outside the erasures are within the corrector's bound.

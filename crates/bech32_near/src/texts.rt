@@ -7,10 +7,10 @@ ghost use Rattle.bech32_decode.specs.Refusals.{HasLengths};
 ghost use Rattle.bech32_near.specs.NearTexts.{AreNearestListings, AreNearTexts, IsNearestRefusal, IsOutOfMemory, IsSearch, IsSearcherOf};
 
 use crate::listings::nearest_listings;
+use crate::search::Listings;
 use bech32_checksum::{Checksum, CorrectingChecksum};
 use bech32_correction::{CorrectError, Corrector, Mended, mended_by};
 use bech32_decode::Reading;
-use bech32_near_search::Listings;
 use std::alloc::{AllocError, Allocator, Global};
 
 /// The texts near a text, and what may look further.

@@ -7,7 +7,7 @@ use Rattle.bech32_gf.specs.declared.gf32.Fe32.{Fe32}
 use Rattle.bech32_checksum.specs.Code.{Code}
 use Rattle.bech32_bch.specs.Erasures.{with_erasures}
 use Rattle.bech32_bch.specs.Pattern.{errors_outside}
-use Rattle.bech32_near_search.specs.Nearest.{AreNearest}
+use Rattle.bech32_near.specs.search.Nearest.{AreNearest}
 use Rattle.bech32_near.specs.NearTexts.{AreNearTexts, AreNearestListings, IsNearText, IsSearched, differences_outside}
 use Rattle.bech32_near.proofs.Differing.{differences, few_outside}
 use Rattle.b32_replies.proofs.FewLocations.{each_few, each_given, no_more, same_erasures}

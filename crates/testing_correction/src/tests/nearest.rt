@@ -6,7 +6,7 @@ use bech32_checksum::{Bech32, Checksum};
 use bech32_correction::Corrector;
 use bech32_gf::gf32::Fe32;
 use bech32_near::nearest_listings;
-use bech32_near_search::Listings;
+use bech32_near::search::Listings;
 use linked_list_allocator::LocalHeap;
 use std::alloc::Global;
 use std::process::Abort;

@@ -1,6 +1,6 @@
 use Rattle.std.proofs.Common.{◌++◌, ◌∷◌, [], sym, subst, ap, ◌∙◌}
 use Rattle.std.proofs.lemmas.Result.{err_from_is_err_and}
-use Rattle.bech32_near_search.specs.Nearest.{AreNearest}
+use Rattle.bech32_near.specs.search.Nearest.{AreNearest}
 use Rattle.bech32_near.proofs.listings.listings_within.Goals as goal
 
 pub returns-in_err-push-clause-memory : goal.returns-in_err-push-clause-memory

@@ -1,6 +1,6 @@
 use Rattle.std.specs.Prelude.{true, false}
 use Rattle.std.proofs.Common.{◌≡◌, sym, ◌∙◌}
-use Rattle.bech32_near_search.proofs.NearestAnswers.{all_gathered, one_gathered}
+use Rattle.bech32_near.proofs.NearestAnswers.{all_gathered, one_gathered}
 use Rattle.bech32_near.proofs.Within.{memory_returned, never_returned, one_returned}
 use Rattle.bech32_near.proofs.listings.nearest_listings.Goals as goal
 

@@ -1,6 +1,0 @@
-use Rattle.std.proofs.Common.{◌≡◌, ◌++◌, map, take}
-use Rattle.bech32_near_search.specs.Steps.{raised}
-use Rattle.bech32_near_search.proofs.gathering.push_raised.Given as goal
-
-abbrev pub invariant-loop-listing : goal.invariant-loop-listing
-invariant-loop-listing g l = l.found.items ≡ l.fn.found.items ++ map (raised l.erased l.error) (take l.listing-index l.listings.items)

@@ -1,6 +1,0 @@
-use Rattle.std.proofs.Common.{◌≡◌, take}
-use Rattle.bech32_near_search.specs.Sketch.{cleared_by}
-use Rattle.bech32_near_search.proofs.sketch.cleared_by.Given as goal
-
-abbrev pub invariant-loop-row : goal.invariant-loop-row
-invariant-loop-row l = l.left ≡ cleared_by (take l.row-index l.rows) l.number
