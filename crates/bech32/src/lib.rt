@@ -1,7 +1,6 @@
 //! Encoding and decoding of bech32 texts.
 //!
-//! Below it: all that it exports: `bech32_core`, `bech32_near`, `bech32_near_edits`,
-//! `bech32_segwit`, `bech32_block`.
+//! Below it: all that it exports: `bech32_core`, `bech32_near`, `bech32_segwit`, `bech32_block`.
 //! Standard: BIP-173; BIP-350.
 #![tactic(auto)]
 
@@ -37,9 +36,9 @@ use bech32_encode::{text_length_of_part, text_of_size_in};
 pub use bech32_gf::gf32::Fe32;
 pub use bech32_gf_ext::{Fe1024, Fe32768};
 pub use bech32_hrp::Hrp;
+pub use bech32_near::edits::{Change, Edit, EditsError, NearEdit, near_edits, near_edits_in};
 pub use bech32_near::search::Listings;
 pub use bech32_near::{NearTexts, nearest, nearest_in, nearest_listings};
-pub use bech32_near_edits::{Change, Edit, EditsError, NearEdit, near_edits, near_edits_in};
 pub use bech32_segwit as segwit;
 use content::{Content, items_in};
 pub use elements::{

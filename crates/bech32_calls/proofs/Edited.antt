@@ -5,8 +5,8 @@ use Rattle.std.proofs.lemmas.List.{length-map, take_all}
 use Rattle.bech32_checksum.specs.Code.{Code}
 use Rattle.bech32_decode.specs.Text.{IsInGrammar, text_refusal}
 use Rattle.bech32_decode.proofs.Grammar.{text_refusal-none}
-use Rattle.bech32_near_edits.specs.NearEdits.{AreNearEdits, HasNearEdit}
-use Rattle.bech32_near_edits.specs.declared.edits.Edit.{Edit}
+use Rattle.bech32_near.specs.edits.NearEdits.{AreNearEdits, HasNearEdit}
+use Rattle.bech32_near.specs.declared.edits.edit.Edit.{Edit}
 use Rattle.bech32_calls.specs.Checksums.{ForChecksum, IsFaultBy}
 use Rattle.bech32_calls.specs.Faults.{IsTextFault}
 use Rattle.bech32_calls.specs.Listing.{EndsWell, IfAllPut, IfNotAllPut, LacksMemory, ListsRows}

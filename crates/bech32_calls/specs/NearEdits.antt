@@ -3,11 +3,11 @@ use Rattle.std.specs.Prelude.{◌≡◌, ◌<◌, ◌⊎◌, ℕ, List, length, 
 use Rattle.std.specs.Str.{IsUtf8}
 use Rattle.bech32_checksum.specs.Code.{Code}
 use Rattle.bech32_decode.specs.Text.{IsInGrammar, text_refusal}
-use Rattle.bech32_near_edits.specs.NearEdits.{AreNearEdits, IsEditsRefusal}
-use Rattle.bech32_near_edits.specs.declared.edits.Change.{Change}
-use Rattle.bech32_near_edits.specs.declared.edits.Change.TheVariants.{LeftOut, PutIn, Swapped}
-use Rattle.bech32_near_edits.specs.declared.edits.Edit.{Edit}
-use Rattle.bech32_near_edits.specs.declared.error.EditsError.TheVariants.{Memory as OutOfMemory}
+use Rattle.bech32_near.specs.edits.NearEdits.{AreNearEdits, IsEditsRefusal}
+use Rattle.bech32_near.specs.declared.edits.edit.Change.{Change}
+use Rattle.bech32_near.specs.declared.edits.edit.Change.TheVariants.{LeftOut, PutIn, Swapped}
+use Rattle.bech32_near.specs.declared.edits.edit.Edit.{Edit}
+use Rattle.bech32_near.specs.declared.edits.error.EditsError.TheVariants.{Memory as OutOfMemory}
 use Rattle.caller_memory.specs.Memory.{IsKept}
 use Rattle.caller_memory.specs.declared.memory.Memory.{Memory as Lent}
 use Rattle.bech32_calls.specs.Checksums.{ForChecksum, IsFaultBy}

@@ -2,7 +2,7 @@
 
 ghost use Rattle.std.specs.Prelude.{◌≡◌, ◌⊎◌, length, map, string_bytes, IfErr, MatchResult};
 ghost use Rattle.bech32_decode.specs.Text.{IsInGrammar};
-ghost use Rattle.bech32_near_edits.specs.NearEdits.{AreNearEdits, HasNearEdit};
+ghost use Rattle.bech32_near.specs.edits.NearEdits.{AreNearEdits, HasNearEdit};
 ghost use Rattle.caller_memory.specs.Memory.{IsKept};
 ghost use Rattle.bech32_calls.specs.Checksums.{ForChecksum, IsFaultBy};
 ghost use Rattle.bech32_calls.specs.Listing.{ReturnsMemory, IfAllPut, IfNotAllPut};
@@ -14,7 +14,7 @@ use crate::listed::{Listed, Row, end_with, list_rows};
 use crate::refusal::Refusal;
 use bech32::{Bech32, Bech32m, Change, NearEdit};
 use bech32_decode::Reading;
-use bech32_near_edits::near_edits_of_read;
+use bech32_near::edits::near_edits_of_read;
 use caller_memory::{Lent, Memory};
 use std::alloc::{AllocError, Allocator};
 

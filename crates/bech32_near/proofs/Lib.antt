@@ -19,3 +19,14 @@ pub mod SketchSums
 pub mod Sketches
 pub mod Skipped
 pub mod Tables
+mod Characters
+mod Kept
+mod Listed
+mod Made
+mod Once
+mod Parts
+mod Located
+mod Sums
+mod Told
+mod Verdicts
+mod Words

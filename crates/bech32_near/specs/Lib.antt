@@ -1,2 +1,3 @@
 pub mod NearTexts
 pub mod search
+pub mod edits

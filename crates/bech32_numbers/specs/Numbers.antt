@@ -45,8 +45,8 @@ use Rattle.bech32_correction.specs.declared.error.CorrectError.TheVariants.{
   Refused as NotCorrected,
   Memory as CorrectMemory,
 }
-use Rattle.bech32_near_edits.specs.declared.error.EditsError.{EditsError}
-use Rattle.bech32_near_edits.specs.declared.error.EditsError.TheVariants.{
+use Rattle.bech32_near.specs.declared.edits.error.EditsError.{EditsError}
+use Rattle.bech32_near.specs.declared.edits.error.EditsError.TheVariants.{
   Refused as NotEdited,
   Memory as EditsMemory,
 }

@@ -10,8 +10,8 @@ use Rattle.bech32_bch.proofs.Places.{all_push, mem_left, mem_right, mem_split, o
 use Rattle.bech32_hrp.specs.Hrp.{lowered}
 use Rattle.bech32_checksum.specs.Code.{Code, bech32, bech32m}
 use Rattle.bech32_near.specs.NearTexts.{AreNearTexts, IsNearText}
-use Rattle.bech32_near_edits.specs.NearEdits.{AreNearEdits}
-use Rattle.bech32_near_edits.specs.declared.edits.Edit.{Edit}
+use Rattle.bech32_near.specs.edits.NearEdits.{AreNearEdits}
+use Rattle.bech32_near.specs.declared.edits.edit.Edit.{Edit}
 use Rattle.bech32_decode.specs.Text.{HasHrp, IsText}
 use Rattle.bech32_decode.proofs.Grammar.{only-from_IsText}
 use Rattle.bech32_suggest.specs.Chance.{most_errors}

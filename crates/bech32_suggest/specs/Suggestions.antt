@@ -10,10 +10,10 @@ use Rattle.bech32_checksum.specs.Roots.{singleton_bound}
 use Rattle.bech32_decode.specs.Segwit.{IsAddressText}
 use Rattle.bech32_decode.specs.Text.{HasHrp, IsText, text_refusal}
 use Rattle.bech32_near.specs.NearTexts.{AreNearTexts, IsNearText}
-use Rattle.bech32_near_edits.specs.NearEdits.{AreNearEdits}
-use Rattle.bech32_near_edits.specs.declared.edits.Edit.{Edit}
-use Rattle.bech32_near_edits.specs.declared.error.EditsError.{EditsError}
-use Rattle.bech32_near_edits.specs.declared.error.EditsError.TheVariants.{Memory, Refused}
+use Rattle.bech32_near.specs.edits.NearEdits.{AreNearEdits}
+use Rattle.bech32_near.specs.declared.edits.edit.Edit.{Edit}
+use Rattle.bech32_near.specs.declared.edits.error.EditsError.{EditsError}
+use Rattle.bech32_near.specs.declared.edits.error.EditsError.TheVariants.{Memory, Refused}
 use Rattle.bech32_suggest.specs.Chance.{most_errors}
 use Rattle.bech32_suggest.specs.Forms.{IsAddressInUse}
 use Rattle.bech32_suggest.specs.Mendings.{common_length, mending_of}

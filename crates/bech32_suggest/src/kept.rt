@@ -11,7 +11,7 @@ use crate::mendings::{Suggestion, compared};
 use bech32_correction::MendedBy;
 use bech32_decode::SegwitHrpstring;
 use bech32_hrp::Hrp;
-use bech32_near_edits::NearEdit;
+use bech32_near::edits::NearEdit;
 use std::alloc::{AllocError, Allocator};
 
 /// What has a text, among what is listed.

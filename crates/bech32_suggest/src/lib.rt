@@ -1,6 +1,6 @@
 //! "Did you mean": the addresses of a network that someone who typed a text may have meant.
 //!
-//! Below it: `bech32_near`, `bech32_near_edits`.
+//! Below it: `bech32_near`.
 //! Standard: BIP-173; BIP-350.
 #![tactic(auto)]
 

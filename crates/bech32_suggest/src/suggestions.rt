@@ -15,7 +15,7 @@ use crate::typed::{MOST_TYPED, count_unreadable, read_typed, unreadable_in};
 use bech32_checksum::Bech32m;
 use bech32_decode::{Reading, UncheckedHrpstringError};
 use bech32_hrp::Hrp;
-use bech32_near_edits::EditsError;
+use bech32_near::edits::EditsError;
 use std::alloc::{AllocError, Allocator, Global};
 
 // The addresses that are found for a typed text that was read, with at most this many errors.
@@ -139,7 +139,7 @@ pub fn suggest_in<A: Allocator + Copy>(
 ///
 /// The texts that are tried are, in this order, those that [`nearest`](bech32_near::nearest) lists
 /// by Bech32, and by Bech32m, with the `?` as erasures; then, of a text without `?`, those that
-/// [`near_edits`](bech32_near_edits::near_edits) lists by Bech32, and by Bech32m. The addresses
+/// [`near_edits`](bech32_near::edits::near_edits) lists by Bech32, and by Bech32m. The addresses
 /// among them are returned in that order, each once, with what is done to the typed text. Two
 /// neighbours that are swapped differ at two characters, so `nearest` lists them where it looks for
 /// two errors: they are told as [`Mending::Swapped`](crate::Mending::Swapped), and stand in its

@@ -10,8 +10,8 @@ use crate::mendings::Suggestion;
 use bech32_checksum::{Bech32, Bech32m, Checksum};
 use bech32_correction::Mended;
 use bech32_decode::Reading;
+use bech32_near::edits::near_edits_of_read;
 use bech32_near::nearest_of_read;
-use bech32_near_edits::near_edits_of_read;
 use std::alloc::{AllocError, Allocator};
 
 // The texts near one that was read: by Bech32m, or by Bech32, whose generator is the same.

@@ -8,10 +8,10 @@ use Rattle.bech32_correction.specs.declared.error.CorrectError.TheVariants.{Memo
 use Rattle.bech32_decode.specs.Acceptance.{Accepts}
 use Rattle.bech32_decode.specs.Text.{IsInGrammar}
 use Rattle.bech32_decode.proofs.Grammar.{not_in_grammar}
-use Rattle.bech32_near_edits.specs.NearEdits.{IsEditsRefusal, IsToldText}
-use Rattle.bech32_near_edits.specs.declared.edits.Edit.{Edit}
-use Rattle.bech32_near_edits.specs.declared.error.EditsError.{EditsError}
-use Rattle.bech32_near_edits.specs.declared.error.EditsError.TheVariants as edits
+use Rattle.bech32_near.specs.edits.NearEdits.{IsEditsRefusal, IsToldText}
+use Rattle.bech32_near.specs.declared.edits.edit.Edit.{Edit}
+use Rattle.bech32_near.specs.declared.edits.error.EditsError.{EditsError}
+use Rattle.bech32_near.specs.declared.edits.error.EditsError.TheVariants as edits
 use Rattle.b32_replies.specs.Locations.{AreLocations}
 use Rattle.b32_replies.proofs.OneAnswer.{one_list}
 use Rattle.b32_replies.proofs.Unrefused.{IsUtf8-from_grammar, accepted_unrefused, not_by_both, residue_unrefused}

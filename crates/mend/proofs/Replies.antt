@@ -8,10 +8,10 @@ use Rattle.bech32_checksum.specs.Roots.{singleton_bound}
 use Rattle.bech32_correction.specs.declared.error.CorrectError.{CorrectError}
 use Rattle.bech32_correction.specs.declared.error.CorrectError.TheVariants.{Memory, Refused}
 use Rattle.bech32_near.specs.NearTexts.{AreNearTexts, IsNearestRefusal}
-use Rattle.bech32_near_edits.specs.declared.edits.Edit.{Edit}
-use Rattle.bech32_near_edits.specs.declared.error.EditsError.{EditsError}
-use Rattle.bech32_near_edits.specs.declared.error.EditsError.TheVariants as edits
-use Rattle.bech32_near_edits.specs.NearEdits.{AreNearEdits, IsEditsRefusal}
+use Rattle.bech32_near.specs.declared.edits.edit.Edit.{Edit}
+use Rattle.bech32_near.specs.declared.edits.error.EditsError.{EditsError}
+use Rattle.bech32_near.specs.declared.edits.error.EditsError.TheVariants as edits
+use Rattle.bech32_near.specs.edits.NearEdits.{AreNearEdits, IsEditsRefusal}
 use Rattle.line_program.specs.Added.{AddsOrSaysNumber}
 use Rattle.line_program.specs.Refused.{err}
 use Rattle.bech32_numbers.specs.Numbers.{number_of_correct_error, number_of_edits_error}

@@ -1,8 +1,8 @@
 -- What may be said of suggestions.
 use Rattle.std.specs.Prelude.{flat_map}
 use Rattle.std.proofs.Common.{◌≡◌, ◌≢◌, ◌++◌, ◌∷◌, [], ◌∙◌, map, ℕ, inl, inr, List, None, refl, sym, ap, subst, codes}
-use Rattle.bech32_near_edits.specs.declared.error.EditsError.{EditsError}
-use Rattle.bech32_near_edits.specs.declared.error.EditsError.TheVariants.{Memory}
+use Rattle.bech32_near.specs.declared.edits.error.EditsError.{EditsError}
+use Rattle.bech32_near.specs.declared.edits.error.EditsError.TheVariants.{Memory}
 use Rattle.bech32_hrp.specs.Hrp.{hrp_refusal}
 use Rattle.bech32_suggest.specs.Suggestions.{AreSuggestions, IsSuggestRefusal, Suggested}
 use Rattle.bech32_suggest.proofs.Adding.{some_tried}

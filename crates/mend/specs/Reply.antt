@@ -11,10 +11,10 @@ use Rattle.bech32_correction.specs.Mistyped.{HasResidue, IsRefusal}
 use Rattle.bech32_correction.specs.declared.error.CorrectError.{CorrectError}
 use Rattle.bech32_correction.specs.declared.error.CorrectError.TheVariants.{Memory, Refused}
 use Rattle.bech32_near.specs.NearTexts.{AreNearTexts}
-use Rattle.bech32_near_edits.specs.declared.edits.Change.{Change}
-use Rattle.bech32_near_edits.specs.declared.edits.Change.TheVariants.{Swapped, LeftOut, PutIn}
-use Rattle.bech32_near_edits.specs.declared.edits.Edit.{Edit}
-use Rattle.bech32_near_edits.specs.NearEdits.{AreNearEdits, IsEditsRefusal}
+use Rattle.bech32_near.specs.declared.edits.edit.Change.{Change}
+use Rattle.bech32_near.specs.declared.edits.edit.Change.TheVariants.{Swapped, LeftOut, PutIn}
+use Rattle.bech32_near.specs.declared.edits.edit.Edit.{Edit}
+use Rattle.bech32_near.specs.edits.NearEdits.{AreNearEdits, IsEditsRefusal}
 use Rattle.bech32_hrp.specs.Hrp.{hrp_refusal}
 use Rattle.bech32_suggest.specs.Suggestions.{AreSuggestions, IsSuggestRefusal, Suggested}
 use Rattle.bech32_suggest.specs.declared.mendings.Mending.{Mending}

@@ -1,7 +1,7 @@
 //! Answers `edits`.
 
 ghost use Rattle.std.specs.Prelude.{◌≡◌, ◌+◌, ◌<◌, ◌≤◌, map, string_bytes, vec_len, vec_capacity, IfErr, MatchResult, OnOk};
-ghost use Rattle.bech32_near_edits.specs.NearEdits.{AreNearEdits, IsEditsRefusal};
+ghost use Rattle.bech32_near.specs.edits.NearEdits.{AreNearEdits, IsEditsRefusal};
 ghost use Rattle.b32_replies.specs.Request.{code_of_name};
 ghost use Rattle.line_program.specs.Added.{AddsOrSaysNumber};
 ghost use Rattle.mend.specs.Reply.{IsEditsAnswer, said_of_edit, word_of_change};

@@ -1,4 +1,4 @@
-//! Tests of `bech32_detect`, `bech32_correction`, `bech32_near` and `bech32_near_edits`.
+//! Tests of `bech32_detect`, `bech32_correction` and `bech32_near`.
 #![tactic(auto)]
 
 #[cfg(test)]

@@ -2,7 +2,7 @@
 
 use crate::rows::{no_row, word};
 use bech32_checksum::{Bech32, Bech32m, Checksum};
-use bech32_near_edits::{Change, NearEdit, near_edits};
+use bech32_near::edits::{Change, NearEdit, near_edits};
 use std::alloc::{AllocError, Global};
 
 // A text, and the edit that makes it: its kind, its location and its characters.

@@ -4,7 +4,7 @@ use crate::tests::compare::same_items;
 use bech32_checksum::{Bech32, Bech32m, NoChecksum};
 use bech32_correction::NoMemory;
 use bech32_gf::gf32::Fe32;
-use bech32_near_edits::{Change, Edit, EditsError, NearEdit, near_edits, near_edits_in};
+use bech32_near::edits::{Change, Edit, EditsError, NearEdit, near_edits, near_edits_in};
 use std::alloc::{Allocator, Global};
 
 // A text, and where what is done to another makes it.

@@ -1,6 +1,6 @@
 use Rattle.std.specs.Prelude.{flat_map, string_bytes}
 use Rattle.std.proofs.Common.{◌≢◌, ◌++◌, [], codes, refl}
-use Rattle.bech32_near_edits.specs.declared.error.EditsError.TheVariants.{Memory}
+use Rattle.bech32_near.specs.declared.edits.error.EditsError.TheVariants.{Memory}
 use Rattle.b32_replies.specs.Request.{code_of_name}
 use Rattle.mend.specs.Reply.{IsEditsAnswer, said_of_edit}
 use Rattle.mend.proofs.Listed.{answers-list, small-list}
