@@ -6,8 +6,8 @@ use Rattle.bech32_gf.specs.Fe32 as fe32
 use Rattle.bech32_gf.specs.Fe32.{element_of, elements_of}
 use Rattle.bech32_gf.specs.Field.{Ops}
 use Rattle.bech32_gf.specs.declared.gf32.Fe32.{Fe32}
-use Rattle.codex32_shares.specs.Shares.{AreShares, DoAgree, IsGiven}
-use Rattle.codex32_shares.proofs.Written.{length-mapped}
+use Rattle.codex32_steady.specs.shares.Shares.{AreShares, DoAgree, IsGiven}
+use Rattle.codex32_steady.proofs.Written.{length-mapped}
 use Rattle.codex32.specs.Derive.{DoContradict, IsDeriveRefusal, IsDerivedString, IsOfSet, IsWholeSet, count_of, indices_of, rows_of, size_of}
 use Rattle.codex32.specs.Share.{characters_of_share, index_of_share}
 use Rattle.codex32.specs.declared.error.DeriveError.{DeriveError}

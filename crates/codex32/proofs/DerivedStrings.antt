@@ -15,10 +15,10 @@ use Rattle.bech32_poly.proofs.Remainder.{remainder_exists}
 use Rattle.bech32_checksum.specs.Code.{Code}
 use Rattle.bech32_checksum.specs.Encoded.{char_of_element, spelled}
 use Rattle.bech32_checksum.specs.TextPolynomial.{hrp_elements, text_polynomial}
-use Rattle.codex32_shares.specs.Shares.{AreShares, IsDerived, IsGiven, column}
-use Rattle.codex32_shares.proofs.Checksums.{same_remainder}
-use Rattle.codex32_shares.proofs.Texts.{common_kept, index_moved}
-use Rattle.codex32_shares.proofs.Written.{length-mapped}
+use Rattle.codex32_steady.specs.shares.Shares.{AreShares, IsDerived, IsGiven, column}
+use Rattle.codex32_steady.proofs.Checksums.{same_remainder}
+use Rattle.codex32_steady.proofs.ShareTexts.{common_kept, index_moved}
+use Rattle.codex32_steady.proofs.Written.{length-mapped}
 use Rattle.codex32.specs.Code.{code_of_length}
 use Rattle.codex32.specs.Derive.{IsDeriveRefusal, IsDerivedString, IsOfSet, IsStringOfSet, IsWholeSet, count_of, indices_of, rows_of, size_of}
 use Rattle.codex32.specs.HeaderParts.{header_elements_of, points_of, secret_index, threshold_number}

@@ -15,12 +15,12 @@ use Rattle.bech32_encode.specs.ExactlyOne.{ExactlyOne}
 use Rattle.bech32_checksum.specs.Encoded.{char_of_element, spelled}
 use Rattle.bech32_decode.proofs.Grammar.{only-from_IsText}
 use Rattle.bech32_decode.proofs.Spelling.{characters-elements, lower_text, spelled-text}
-use Rattle.codex32_shares.specs.Points.{values_at}
-use Rattle.codex32_shares.specs.Shares.{AreShares, DoAgree, IsDerived, IsGiven, column}
-use Rattle.codex32_shares.proofs.Given.{agreeing, front_shares, given, giving}
-use Rattle.codex32_shares.proofs.Texts.{derived_exists, derived_unique}
-use Rattle.codex32_shares.proofs.Through.{through_unique}
-use Rattle.codex32_shares.proofs.Written.{length-mapped}
+use Rattle.codex32_steady.specs.shares.Points.{values_at}
+use Rattle.codex32_steady.specs.shares.Shares.{AreShares, DoAgree, IsDerived, IsGiven, column}
+use Rattle.codex32_steady.proofs.Given.{agreeing, front_shares, given, giving}
+use Rattle.codex32_steady.proofs.ShareTexts.{derived_exists, derived_unique}
+use Rattle.codex32_steady.proofs.Through.{through_unique}
+use Rattle.codex32_steady.proofs.Written.{length-mapped}
 use Rattle.codex32.specs.Derive.{DoContradict, IsDerivedString, IsOfSet, IsWholeSet, count_of, indices_of, rows_of, size_of}
 use Rattle.codex32.specs.HeaderParts.{header_elements_of, points_of}
 use Rattle.codex32.specs.Sets.{IsGivenShare}

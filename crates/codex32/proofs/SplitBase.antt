@@ -10,8 +10,8 @@ use Rattle.bech32_hrp.specs.Hrp.{lowered}
 use Rattle.bech32_poly.specs.Distinct.{IsAmong, IsOnce}
 use Rattle.bech32_poly.proofs.Lists.{same_cons}
 use Rattle.bech32_decode.proofs.Grammar.{only-from_IsText}
-use Rattle.codex32_shares.proofs.Texts.{derived_exists}
-use Rattle.codex32_shares.proofs.Written.{length-mapped}
+use Rattle.codex32_steady.proofs.ShareTexts.{derived_exists}
+use Rattle.codex32_steady.proofs.Written.{length-mapped}
 use Rattle.codex32.specs.Derive.{AreOfSet, DoContradict, IsDerivedString, IsOfSet, IsUnshared, IsWholeSet, count_of, indices_of, rows_of, size_of}
 use Rattle.codex32.specs.HeaderParts.{points_of, secret_index, threshold_number}
 use Rattle.codex32.specs.Share.{AreSharesOf, IsShareOf, characters_of_share, identifier_of_share, index_of_share, payload_of_share, threshold_of_share}

@@ -11,8 +11,8 @@ use Rattle.bech32_checksum.specs.Code.{Code}
 use Rattle.bech32_checksum.specs.Encoded.{IsEncodedText, char_of_element, spelled}
 use Rattle.bech32_checksum.specs.TextPolynomial.{hrp_elements, text_polynomial}
 use Rattle.bech32_decode.proofs.Spelling.{characters-elements}
-use Rattle.codex32_shares.specs.Shares.{AreShareTexts, IsShareText}
-use Rattle.codex32_shares.proofs.Strings.{Ends, size_of, text_size}
+use Rattle.codex32_steady.specs.shares.Shares.{AreShareTexts, IsShareText}
+use Rattle.codex32_steady.proofs.Strings.{Ends, size_of, text_size}
 use Rattle.codex32.specs.Encode.{code_of_payload_count}
 use Rattle.codex32.specs.Header.{header_elements}
 use Rattle.codex32.specs.HeaderParts.{header_elements_of}

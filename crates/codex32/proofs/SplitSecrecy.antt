@@ -16,11 +16,11 @@ use Rattle.bech32_checksum.specs.Code.{Code}
 use Rattle.bech32_checksum.specs.Encoded.{IsEncodedText, spelled}
 use Rattle.bech32_checksum.specs.TextPolynomial.{hrp_elements}
 use Rattle.bech32_checksum.proofs.Uniqueness.{one_text, text_exists}
-use Rattle.codex32_shares.specs.Shares.{AreDerived, AreShares, IsDerived}
-use Rattle.codex32_shares.proofs.Dealt.{one_dealing_of_strings}
-use Rattle.codex32_shares.proofs.Strings.{derived_string, shares_of}
-use Rattle.codex32_shares.proofs.Texts.{derived_unique}
-use Rattle.codex32_shares.proofs.Written.{length-mapped}
+use Rattle.codex32_steady.specs.shares.Shares.{AreDerived, AreShares, IsDerived}
+use Rattle.codex32_steady.proofs.Dealt.{one_dealing_of_strings}
+use Rattle.codex32_steady.proofs.Strings.{derived_string, shares_of}
+use Rattle.codex32_steady.proofs.ShareTexts.{derived_unique}
+use Rattle.codex32_steady.proofs.Written.{length-mapped}
 use Rattle.codex32.specs.Code.{codex32, long_codex32}
 use Rattle.codex32.specs.Derive.{IsDerivedString, IsWholeSet, count_of, indices_of, rows_of, size_of}
 use Rattle.codex32.specs.Encode.{code_of_byte_count, code_of_payload_count, is_byte_count, is_long_byte_count}

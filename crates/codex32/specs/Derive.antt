@@ -7,7 +7,7 @@ use Rattle.bech32_gf.specs.Fe32.{elements_of}
 use Rattle.bech32_gf.specs.declared.gf32.Fe32.{Fe32}
 use Rattle.bech32_poly.specs.Distinct.{IsOnce}
 use Rattle.bech32_checksum.specs.Encoded.{spelled}
-use Rattle.codex32_shares.specs.Shares.{DoAgree, IsGiven}
+use Rattle.codex32_steady.specs.shares.Shares.{DoAgree, IsGiven}
 use Rattle.codex32.specs.HeaderParts.{points_of, secret_index, threshold_number}
 use Rattle.codex32.specs.Share.{characters_of_share, identifier_of_share, index_of_share}
 use Rattle.codex32.specs.Share.{IsShareString, threshold_of_share}

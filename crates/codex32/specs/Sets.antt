@@ -2,7 +2,7 @@
 use Rattle.std.specs.Prelude.{List, [], ◌∷◌}
 use Rattle.bech32_gf.specs.Fe32 as fe32
 use Rattle.bech32_gf.specs.Fe32.{elements_of}
-use Rattle.codex32_shares.specs.Shares.{IsGiven}
+use Rattle.codex32_steady.specs.shares.Shares.{IsGiven}
 use Rattle.codex32.specs.Derive.{IsOfSet, count_of, indices_of, rows_of, size_of}
 use Rattle.codex32.specs.Share.{characters_of_share, index_of_share}
 use Rattle.codex32.specs.declared.share.Share.{Share}

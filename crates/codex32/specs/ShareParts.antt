@@ -5,7 +5,7 @@ use Rattle.bech32_gf.specs.Fe32.{elements_of, ops}
 use Rattle.bech32_poly.specs.Division.{remainder_of}
 use Rattle.bech32_checksum.specs.Code.{Code}
 use Rattle.bech32_checksum.specs.TextPolynomial.{text_polynomial}
-pub use Rattle.codex32_steady_texts.specs.Parts.{ms}
+pub use Rattle.codex32_steady.specs.texts.Parts.{ms}
 use Rattle.codex32.specs.Code.{code_of_length}
 
 -- the checksum of a data part, which stands behind three characters

@@ -13,8 +13,8 @@ use crate::frame::{outlined, validate_outline};
 use crate::lengths::Lengths;
 use crate::unreadable::is_unreadable;
 use bech32::primitives::decode::{CharError, UncheckedHrpstringError};
+use codex32_steady::texts::parts::part_fault;
 use codex32_steady::{has_both_cases, is_data_byte};
-use codex32_steady_texts::parts::part_fault;
 
 // Whether a byte is `1`. Out of line: only that can be told.
 #[inline(never)]

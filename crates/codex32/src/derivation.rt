@@ -5,7 +5,7 @@ ghost use Rattle.std.specs.List.{AllByRecursion};
 ghost use Rattle.bech32_checksum.specs.Encoded.{char_of_element, spelled};
 ghost use Rattle.bech32_encode.specs.Buffers.{IsPut};
 ghost use Rattle.bech32_gf.specs.Fe32 as fe32;
-ghost use Rattle.codex32_shares.specs.Shares.{IsGiven};
+ghost use Rattle.codex32_steady.specs.shares.Shares.{IsGiven};
 ghost use Rattle.codex32.specs.Derive.{DoContradict, IsDeriveIntoRefusal, IsDeriveRefusal, IsDerivedOrRefused, IsDerivedString, IsOfSet, IsSetRefusal, IsStringOfSet, IsWholeSet, count_of, indices_of, rows_of, size_of};
 ghost use Rattle.codex32.specs.HeaderParts.{points_of, secret_index};
 ghost use Rattle.codex32.specs.ShareParts.{ms};
@@ -14,9 +14,9 @@ use crate::error::DeriveError;
 use crate::share::Share;
 use crate::threshold::Threshold;
 use bech32::Fe32;
-use codex32_shares::agreement::given_at;
-use codex32_shares::once::are_indices_once;
-use codex32_steady_texts::text::{put_spelled, spelled_in};
+use codex32_steady::shares::agreement::given_at;
+use codex32_steady::shares::once::are_indices_once;
+use codex32_steady::texts::text::{put_spelled, spelled_in};
 use std::alloc::{Allocator, Global};
 
 // The most elements of a string: those behind three characters of 127.

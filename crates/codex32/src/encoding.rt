@@ -15,7 +15,7 @@ use crate::error::EncodeError;
 use crate::header::Header;
 use crate::long::LongCodex32;
 use bech32::{ByteIterExt, Checksum, Fe32};
-use codex32_steady_texts::text::put_text;
+use codex32_steady::texts::text::put_text;
 use std::alloc::{AllocError, Allocator, Global};
 
 // The most elements of a payload: those of 64 bytes.

@@ -8,8 +8,8 @@ ghost use Rattle.codex32.specs.Strings.{frame_refusal_by, is_ms, codex32_length_
 
 use crate::error::Codex32Error;
 use crate::lengths::Lengths;
-use codex32_steady_texts::data_part::plain_data_part;
-use codex32_steady_texts::parts::parts_of;
+use codex32_steady::texts::data_part::plain_data_part;
+use codex32_steady::texts::parts::parts_of;
 
 // Whether a human-readable part is `ms`, in either case.
 fn is_of_codex32(hrp: &[u8]) -> bool

@@ -1,6 +1,6 @@
 //! The checksums of codex32, its strings and shares, and the nearest string to a damaged one.
 //!
-//! Below it: `bech32`, `codex32_shares`.
+//! Below it: `bech32`, `codex32_steady`.
 //! Standard: BIP-93.
 #![tactic(auto)]
 

@@ -10,7 +10,7 @@ ghost use Rattle.codex32.specs.ShareParts.{ms};
 
 use bech32::Fe32;
 use codex32_steady::put_elements;
-use codex32_steady_texts::text::spelled_in;
+use codex32_steady::texts::text::spelled_in;
 use std::alloc::{AllocError, Allocator};
 
 // The most elements of a string: those behind three characters of 127.

@@ -15,7 +15,7 @@ use crate::unreadable::{read_in, unreadable_in};
 use crate::{Codex32, Codex32Error, LongCodex32};
 use bech32::primitives::correction::{Corrector, Listing, MAX_DEGREE, listing_given};
 use bech32::{CorrectingChecksum, Fe32};
-use codex32_steady_texts::residue::{put_error_residue, residue_error_of};
+use codex32_steady::texts::residue::{put_error_residue, residue_error_of};
 use std::alloc::{AllocError, Allocator, Global};
 use std::marker::PhantomData;
 

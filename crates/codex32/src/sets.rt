@@ -6,7 +6,7 @@ ghost use Rattle.bech32_encode.specs.ExactlyOne.{ExactlyOne};
 ghost use Rattle.bech32_gf.specs.declared.gf32.Fe32.{Fe32 as Element};
 ghost use Rattle.bech32_hrp.specs.Hrp.{lowered};
 ghost use Rattle.bech32_poly.specs.Distinct.{IsAmong};
-ghost use Rattle.codex32_shares.specs.Shares.{AreShares};
+ghost use Rattle.codex32_steady.specs.shares.Shares.{AreShares};
 ghost use Rattle.codex32.specs.Derive.{DoContradict, IsDerivedString, IsWholeSet, indices_of, rows_of, size_of};
 ghost use Rattle.codex32.specs.Sets.{IsGivenShare};
 ghost use Rattle.codex32.specs.Share.{IsShareOf, IsShareString, index_of_share};

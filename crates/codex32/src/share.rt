@@ -20,9 +20,9 @@ use crate::long::LongCodex32;
 use crate::threshold::Threshold;
 use bech32::Fe32;
 use bech32::primitives::decode::{ChecksumError, data_bytes_count};
-use codex32_shares::text::IndexedText;
-use codex32_steady_texts::payload::put_payload_bytes;
-use codex32_steady_texts::residue::validate_data_part;
+use codex32_steady::shares::text::IndexedText;
+use codex32_steady::texts::payload::put_payload_bytes;
+use codex32_steady::texts::residue::validate_data_part;
 
 /// A codex32 string of either length in its parts: of 48 to 93 characters with the checksum of 13,
 /// or of 125 to 127 with that of 15 (BIP-93, codex32 and Long codex32 Strings): a share, or the

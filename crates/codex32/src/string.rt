@@ -7,7 +7,7 @@ ghost use Rattle.codex32.specs.Strings.{IsCodex32, IsStringRefusal};
 use crate::frame::data_part_of;
 use crate::lengths::Lengths;
 use crate::{Codex32, Codex32Error, validate_header};
-use codex32_steady_texts::residue::validate_data_part;
+use codex32_steady::texts::residue::validate_data_part;
 
 /// A codex32 string in its parts, in the case of the text, which it borrows (BIP-93, codex32): the
 /// human-readable part `ms`, 48 to 93 characters, and the checksum of 13 characters.

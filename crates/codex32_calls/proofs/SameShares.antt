@@ -9,7 +9,7 @@ use Rattle.bech32_gf.specs.Fe32 as fe32
 use Rattle.bech32_gf.specs.Fe32.{element_of, elements_of}
 use Rattle.bech32_gf.specs.declared.gf32.Fe32.{Fe32}
 use Rattle.bech32_poly.specs.Distinct.{IsOnce}
-use Rattle.codex32_shares.specs.Shares.{DoAgree}
+use Rattle.codex32_steady.specs.shares.Shares.{DoAgree}
 use Rattle.codex32.specs.Derive.{AreOfSet, DoContradict, IsDeriveIntoRefusal, IsOfSet, IsSetRefusal, IsUnshared, IsWholeSet, count_of, indices_of, rows_of, size_of}
 use Rattle.codex32.specs.HeaderParts.{points_of, threshold_number}
 use Rattle.codex32.specs.Share.{AreSharesOf, IsShareOf, characters_of_share, identifier_of_share, index_of_share, payload_of_share, threshold_of_share}

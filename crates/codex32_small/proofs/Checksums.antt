@@ -15,7 +15,7 @@ use Rattle.bech32_poly.proofs.Remainder.{length-remainder_of, remainder_exists}
 use Rattle.bech32_checksum.specs.TextPolynomial.{IsChecksumOf, hrp_elements, text_polynomial}
 use Rattle.codex32_calls.specs.declared.propose.Kind.{Kind}
 use Rattle.codex32_calls.specs.declared.propose.Kind.TheVariants.{Short, Long}
-use Rattle.codex32_steady_texts.specs.Parts.{ms}
+use Rattle.codex32_steady.specs.texts.Parts.{ms}
 use Rattle.codex32_small.specs.Code.{code_of_kind}
 use Rattle.codex32_small.specs.declared.register.TheConstants.{GENERATOR, LONG_GENERATOR, LONG_TARGET, START, TARGET}
 use Rattle.codex32_small.proofs.Rows.{same_values}

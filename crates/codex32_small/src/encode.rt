@@ -9,7 +9,7 @@ ghost use Rattle.codex32_calls.specs.Encode.{CanEncode, IsEncodeStringFault, IsH
 ghost use Rattle.codex32_calls.specs.Faults.{IsNumberOfCodex32};
 ghost use Rattle.codex32_calls.specs.Payload.{CanEncodePayload, IsEncodePayloadFault, PutsEncodedPayload};
 ghost use Rattle.codex32_numbers.specs.Numbers.{number_of_header_error};
-ghost use Rattle.codex32_steady_texts.specs.Parts.{ms};
+ghost use Rattle.codex32_steady.specs.texts.Parts.{ms};
 ghost use Rattle.codex32_small.specs.Code.{code_of_kind};
 ghost use Rattle.codex32_small.specs.Given.{IsGivenAs, elements_given};
 

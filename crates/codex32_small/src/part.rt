@@ -9,7 +9,7 @@ ghost use Rattle.codex32.specs.Strings.{is_within_either};
 
 use bech32_gf::gf32::Fe32;
 use codex32::Header;
-use codex32_shares::text::IndexedText;
+use codex32_steady::shares::text::IndexedText;
 
 /// A string of a set: the characters of its data part, and its header.
 #[derive(Clone, Copy)]

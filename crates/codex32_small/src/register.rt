@@ -9,7 +9,7 @@ ghost use Rattle.bech32_gf.specs.Fe32.{elements_of};
 ghost use Rattle.bech32_gf.specs.declared.gf32.Fe32.{Fe32 as Element};
 ghost use Rattle.bech32_poly.specs.Division.{remainder_of, step};
 ghost use Rattle.bech32_poly.specs.Polynomial.{appended};
-ghost use Rattle.codex32_steady_texts.specs.Parts.{ms};
+ghost use Rattle.codex32_steady.specs.texts.Parts.{ms};
 ghost use Rattle.codex32_small.specs.Code.{code_of_kind, coefficients_of};
 
 use crate::product::product;

@@ -22,8 +22,8 @@ use codex32::{Codex32Error, validate_header};
 use codex32_calls::input::text_of;
 use codex32_calls::propose::Kind;
 use codex32_numbers::codex32_error_number;
-use codex32_steady_texts::parts::parts_of;
-use codex32_steady_texts::payload::put_payload_bytes;
+use codex32_steady::texts::parts::parts_of;
+use codex32_steady::texts::payload::put_payload_bytes;
 
 // The number of a wrong checksum.
 const WRONG_CHECKSUM: u32 = 33;

@@ -1,2 +1,14 @@
 pub mod Chosen
 pub mod Places
+pub mod FirstFault
+pub mod Values
+pub mod OnePlaceMore
+pub mod Through
+pub mod Written
+pub mod ShareTexts
+pub mod Checksums
+pub mod Strings
+pub mod OfChecksum
+pub mod Agreed
+pub mod Given
+pub mod Dealt

@@ -1,1 +1,3 @@
 pub mod Masks
+pub mod shares
+pub mod texts

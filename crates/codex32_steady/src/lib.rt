@@ -7,7 +7,10 @@
 //!
 //! What the compiler makes of it is not proved: it is tested in the machine code.
 //!
-//! Below it: `bech32_gf`, `bech32_hrp`.
+//! `texts` does so with whole texts. `shares` derives texts from texts, whose elements lie on
+//! polynomials.
+//!
+//! Below it: `bech32_decode`, `bech32_encode`.
 //! Standard: BIP-173, Bech32 and Checksum; BIP-93.
 #![tactic(auto)]
 
@@ -20,6 +23,8 @@ ghost use Rattle.bech32_checksum.specs.Packed.{sum_of_words};
 ghost use Rattle.codex32_steady.specs.Masks.{masks_of, repeated_byte};
 
 mod products;
+pub mod shares;
+pub mod texts;
 
 use crate::products::PRODUCT_BITS;
 pub use bech32_gf::alphabet::is_data_byte;

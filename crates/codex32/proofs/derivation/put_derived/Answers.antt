@@ -1,7 +1,7 @@
 use Rattle.std.proofs.Common.{◌≡◌, ◌≤◌, ◌+◌, length, inr, refl, sym, subst, ◌∙◌, arith}
 use Rattle.std.proofs.lemmas.List.{length-take-le}
 use Rattle.bech32_gf.specs.Fe32.{ops}
-use Rattle.codex32_shares.specs.Shares.{AreShares, DoAgree}
+use Rattle.codex32_steady.specs.shares.Shares.{AreShares, DoAgree}
 use Rattle.codex32.specs.Derive.{indices_of, rows_of, size_of}
 use Rattle.codex32.proofs.Derived.{count-some, shares-from_set, size-first}
 use Rattle.codex32.proofs.ShareParts.{fits}

@@ -7,7 +7,7 @@ use Rattle.bech32_bits.specs.BytesToFes.{fes_gives, fes_source}
 use Rattle.bech32_bits.proofs.ListSources.{ShowsRest-copied, copied_rest, from_slice, to_come-step}
 use Rattle.bech32_bits.proofs.RoundTrip.{length-to_fes}
 use Rattle.bech32_gf.specs.declared.gf32.Fe32.{Fe32}
-use Rattle.codex32_shares.proofs.Written.{length-written, take_set}
+use Rattle.codex32_steady.proofs.Written.{length-written, take_set}
 use Rattle.codex32.proofs.encoding.put_payload.Goals as goal
 
 -- where one element more is given, there is room for it

@@ -2,7 +2,7 @@ use Rattle.std.proofs.Common.{◌≡◌, ◌≤◌, ◌+◌, ◌∙◌, ℕ, Lis
 use Rattle.std.proofs.lemmas.List.{length-take-le, take_at}
 use Rattle.bech32_gf.specs.Fe32.{elements_of, ops}
 use Rattle.bech32_gf.specs.declared.gf32.Fe32.{Fe32}
-use Rattle.codex32_shares.specs.Shares.{AreShares, DoAgree, IsGiven}
+use Rattle.codex32_steady.specs.shares.Shares.{AreShares, DoAgree, IsGiven}
 use Rattle.codex32.specs.Derive.{count_of, indices_of, rows_of, size_of}
 use Rattle.codex32.proofs.Derived.{count-some, shares-from_set}
 use Rattle.codex32.proofs.ShareParts.{fits}

@@ -3,8 +3,8 @@ use Rattle.std.proofs.lemmas.List.{length-map}
 use Rattle.bech32_checksum.specs.Encoded.{char_of_element, spelled}
 use Rattle.bech32_gf.specs.Fe32 as fe32
 use Rattle.codex32.specs.Derive.{count_of, indices_of, rows_of}
-use Rattle.codex32_shares.specs.Shares.{IsGiven}
-use Rattle.codex32_steady_texts.specs.Parts.{ms}
+use Rattle.codex32_steady.specs.shares.Shares.{IsGiven}
+use Rattle.codex32_steady.specs.texts.Parts.{ms}
 use Rattle.codex32_small.specs.Parts.{shares_of}
 use Rattle.codex32_small.proofs.derive.put_string.Goals as goal
 

@@ -9,7 +9,7 @@ use Rattle.bech32_gf.specs.Fe32.{elements_of}
 use Rattle.bech32_gf.specs.declared.gf32.Fe32.{Fe32}
 use Rattle.codex32.proofs.ShareStrings.{hrp_of_strings}
 use Rattle.codex32.specs.Header.{header_elements}
-use Rattle.codex32_steady_texts.specs.Parts.{ms}
+use Rattle.codex32_steady.specs.texts.Parts.{ms}
 use Rattle.codex32_small.specs.Code.{code_of_kind}
 use Rattle.codex32_small.specs.Given.{elements_given}
 use Rattle.codex32_small.proofs.encode.put_string.Goals as goal

@@ -1,7 +1,7 @@
 use Rattle.std.proofs.Common.{reverse}
 use Rattle.bech32_checksum.specs.TextPolynomial.{text_polynomial}
 use Rattle.bech32_gf.specs.Fe32.{elements_of}
-use Rattle.codex32_steady_texts.specs.Parts.{ms}
+use Rattle.codex32_steady.specs.texts.Parts.{ms}
 use Rattle.codex32_small.proofs.Checksums.{checksum-from_remainder}
 use Rattle.codex32_small.proofs.register.put_checksum.Goals as goal
 

@@ -7,7 +7,7 @@ use Rattle.bech32_gf.specs.declared.gf32.Fe32.{Fe32}
 use Rattle.bech32_checksum.specs.TextPolynomial.{text_polynomial}
 use Rattle.bech32_poly.specs.Division.{remainder_of}
 use Rattle.bech32_poly.specs.Polynomial.{appended}
-use Rattle.codex32_steady_texts.specs.Parts.{ms}
+use Rattle.codex32_steady.specs.texts.Parts.{ms}
 use Rattle.codex32_small.specs.Code.{code_of_kind}
 use Rattle.codex32_small.proofs.Checksums.{length-remainder, polynomial-parts, remainder-more}
 use Rattle.codex32_small.proofs.register.put_remainder.Goals as goal

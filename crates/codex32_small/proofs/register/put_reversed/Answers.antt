@@ -2,7 +2,7 @@ use Rattle.std.proofs.Common.{◌≡◌, ◌<◌, ◌+◌, ◌++◌, ◌∷◌, 
 use Rattle.std.proofs.lemmas.List.{get_or-reverse, length-reverse, map-append, take_all, take_more}
 use Rattle.bech32_checksum.specs.Encoded.{char_of_element}
 use Rattle.bech32_gf.specs.declared.gf32.Fe32.{Fe32}
-use Rattle.codex32_shares.proofs.Written.{length-written, take_set}
+use Rattle.codex32_steady.proofs.Written.{length-written, take_set}
 use Rattle.codex32_small.proofs.register.put_reversed.Goals as goal
 
 pub loop-i-preserved : goal.loop-i-preserved

@@ -3,7 +3,7 @@ use Rattle.std.proofs.Math.ListN.{get_or-map}
 use Rattle.std.proofs.lemmas.List.{take_all, take_more}
 use Rattle.bech32_gf.specs.Fe32 as fe32
 use Rattle.bech32_gf.specs.declared.gf32.Fe32.{Fe32}
-use Rattle.codex32_shares.proofs.Written.{length-written, take_set}
+use Rattle.codex32_steady.proofs.Written.{length-written, take_set}
 use Rattle.codex32_small.specs.declared.register.TheConstants.{START}
 use Rattle.codex32_small.proofs.Checksums.{degree-most, start, started}
 use Rattle.codex32_small.proofs.register.put_start.Goals as goal

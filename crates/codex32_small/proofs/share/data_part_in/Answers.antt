@@ -4,7 +4,7 @@ use Rattle.bech32_checksum.specs.TextPolynomial.{text_polynomial}
 use Rattle.bech32_gf.specs.Fe32 as fe32
 use Rattle.bech32_gf.specs.Fe32.{elements_of}
 use Rattle.bech32_poly.specs.Division.{remainder_of}
-use Rattle.codex32_steady_texts.specs.Parts.{ms}
+use Rattle.codex32_steady.specs.texts.Parts.{ms}
 use Rattle.codex32_small.proofs.Shares.{checksum_refused, has_data_part, header_refused}
 use Rattle.codex32_small.proofs.share.data_part_in.Goals as goal
 

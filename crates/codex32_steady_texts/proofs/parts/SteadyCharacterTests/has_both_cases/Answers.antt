@@ -1,4 +1,0 @@
-use Rattle.codex32_steady_texts.proofs.parts.SteadyCharacterTests.has_both_cases.Goals as goal
-
-pub returns : goal.returns
-returns c = c.has_both_cases.ensures
