@@ -11,7 +11,7 @@ use Rattle.b32_replies.specs.Hex.{bytes_of}
 use Rattle.b32_replies.proofs.Unrefused.{IsUtf8-from_grammar}
 use Rattle.codex32.specs.declared.string.Codex32Str.{Codex32Str}
 use Rattle.codex32.proofs.Strings.{accepts-from_outcome}
-use Rattle.codex32_numbers.specs.Numbers.{number_of_codex32_encode_error, number_of_codex32_error, number_of_derive_error}
+use Rattle.codex32.specs.Numbers.{number_of_codex32_encode_error, number_of_codex32_error, number_of_derive_error}
 use Rattle.codex32_steady.specs.shares.Shares.{DoAgree}
 use Rattle.codex32.specs.Damaged.{read_text}
 use Rattle.codex32.specs.Derive.{AreOfSet, DoContradict, IsDeriveRefusal, IsOfSet, IsSetRefusal, IsUnshared, IsWholeSet, count_of, indices_of, rows_of, size_of}

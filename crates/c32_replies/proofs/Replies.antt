@@ -21,7 +21,7 @@ use Rattle.codex32.specs.declared.share.Share.{Share}
 use Rattle.line_program.specs.Added.{Adds, AddsOrRefuses}
 use Rattle.line_program.proofs.Replied.{adds_or_refuses-weaker}
 use Rattle.line_program.specs.Refused.{err}
-use Rattle.codex32_numbers.specs.Numbers.{number_of_codex32_encode_error, number_of_codex32_error, number_of_payload_error}
+use Rattle.codex32.specs.Numbers.{number_of_codex32_encode_error, number_of_codex32_error, number_of_payload_error}
 use Rattle.c32_replies.specs.Numbers.{number_of_codex32_reply}
 use Rattle.c32_replies.specs.Reply.{AreWordsOf, IsDeriveAnswer, IsEncodeStringAnswer, IsParseAnswer, IsProposeAnswer, IsShareAnswer, IsSharesAnswer, header_words}
 use Rattle.c32_replies.specs.declared.refusal.Refusal.{Refusal}

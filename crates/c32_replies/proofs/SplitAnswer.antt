@@ -1,7 +1,7 @@
 -- Where a secret is split, its shares are said, or out of memory.
 use Rattle.std.proofs.Common.{◌≡◌, ◌⊎◌, ◌+◌, ℕ, inl, inr, List, [], ◌∷◌, Option, Some, None, refl, sym, ap, ◌∙◌, arith}
 use Rattle.std.proofs.lemmas.Fmt.{decimal_injective}
-use Rattle.codex32_numbers.specs.Numbers.{number_of_codex32_error}
+use Rattle.codex32.specs.Numbers.{number_of_codex32_error}
 use Rattle.codex32.specs.HeaderParts.{threshold_word}
 use Rattle.codex32.specs.declared.error.Codex32Error.TheVariants as text_errors
 use Rattle.codex32.specs.declared.identifier.Identifier.{Identifier}

@@ -1,9 +1,9 @@
--- The numbers of refusals: those of `codex32_numbers`, with 4 and 5 for words that are not read; 1
+-- The numbers of refusals: those of `codex32::numbers`, with 4 and 5 for words that are not read; 1
 -- to 3 are those of `line_program`.
 use Rattle.std.specs.Prelude.{ℕ}
-use Rattle.codex32_numbers.specs.Numbers.{number_of_codex32_error, number_of_derive_error}
-use Rattle.codex32_numbers.specs.Numbers.{number_of_codex32_encode_error, number_of_header_error}
-use Rattle.codex32_numbers.specs.Numbers.{number_of_payload_error, number_of_split_error}
+use Rattle.codex32.specs.Numbers.{number_of_codex32_error, number_of_derive_error}
+use Rattle.codex32.specs.Numbers.{number_of_codex32_encode_error, number_of_header_error}
+use Rattle.codex32.specs.Numbers.{number_of_payload_error, number_of_split_error}
 use Rattle.c32_replies.specs.declared.refusal.Refusal.{Refusal}
 use Rattle.c32_replies.specs.declared.refusal.Refusal.TheVariants.{BadNumber, BadHex, Header}
 use Rattle.c32_replies.specs.declared.refusal.Refusal.TheVariants.{Text, Payload, Encode, Derive}

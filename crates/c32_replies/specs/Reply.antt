@@ -30,7 +30,7 @@ use Rattle.codex32.specs.declared.header.Header.{Header}
 use Rattle.codex32.specs.declared.identifier.Identifier.{Identifier}
 use Rattle.codex32.specs.declared.share.Share.{Share as CodexShare}
 use Rattle.codex32.specs.declared.threshold.Threshold.{Threshold}
-use Rattle.codex32_numbers.specs.Numbers.{number_of_codex32_error, number_of_header_error}
+use Rattle.codex32.specs.Numbers.{number_of_codex32_error, number_of_header_error}
 use Rattle.line_program.specs.Added.{AddsOrRefuses}
 use Rattle.line_program.specs.Refused.{SaysRefusal}
 use Rattle.c32_replies.specs.Numbers.{number_of_codex32_reply}

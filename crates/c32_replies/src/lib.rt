@@ -1,6 +1,6 @@
 //! The replies of the program `c32` to the lines of its input.
 //!
-//! Below it: `codex32`, `codex32_numbers`, `line_program`, `b32_replies`.
+//! Below it: `codex32`, `line_program`, `b32_replies`.
 //! Standard: BIP-93.
 #![tactic(auto)]
 

@@ -1,7 +1,7 @@
 //! Answers `parse`.
 
 ghost use Rattle.std.specs.Prelude.{◌+◌, ◌≤◌, vec_len, vec_capacity};
-ghost use Rattle.codex32_numbers.specs.Numbers.{number_of_codex32_error};
+ghost use Rattle.codex32.specs.Numbers.{number_of_codex32_error};
 ghost use Rattle.c32_replies.specs.Reply.{AddsAnswer, IsParseAnswer};
 
 use codex32::{Codex32Error, Codex32Str};

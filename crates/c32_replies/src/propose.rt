@@ -2,7 +2,7 @@
 
 ghost use Rattle.std.specs.Prelude.{◌≡◌, ◌+◌, ◌≤◌, ◌++◌, codes, length, vec_len, vec_capacity};
 ghost use Rattle.line_program.specs.Added.{AddsOrRefuses};
-ghost use Rattle.codex32_numbers.specs.Numbers.{number_of_codex32_error};
+ghost use Rattle.codex32.specs.Numbers.{number_of_codex32_error};
 ghost use Rattle.c32_replies.specs.Reply.{IsProposeAnswer, IsProposeLongAnswer};
 
 use crate::reply::Commands;

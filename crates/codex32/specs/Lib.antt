@@ -7,6 +7,7 @@ pub mod Header
 pub mod HeaderParts
 pub mod Lengths
 pub mod Nearest
+pub mod Numbers
 pub mod Parts
 pub mod Secrecy
 pub mod Sets

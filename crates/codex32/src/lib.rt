@@ -1,6 +1,7 @@
-//! The checksums of codex32, its strings and shares, and the nearest string to a damaged one.
+//! The checksums of codex32, its strings and shares, the nearest string to a damaged one, and the
+//! numbers of all refusals.
 //!
-//! Below it: `bech32`, `codex32_steady`.
+//! Below it: `bech32`, `bech32_numbers`, `codex32_steady`.
 //! Standard: BIP-93.
 #![tactic(auto)]
 
@@ -19,6 +20,7 @@ mod lengths;
 mod long;
 mod mending;
 mod nearest;
+pub mod numbers;
 mod products;
 mod secrecy;
 mod sets;

@@ -1,10 +1,10 @@
--- The numbers of refusals: those of `codex32_numbers`, with 2 for bytes that are not a text, 4 for
+-- The numbers of refusals: those of `codex32::numbers`, with 2 for bytes that are not a text, 4 for
 -- lengths that are not those of texts, 21 and 22 for characters that are no payload, 34 where there
 -- is no nearest text, and 92 for a buffer that is too small.
 use Rattle.std.specs.Prelude.{ℕ}
-use Rattle.codex32_numbers.specs.Numbers.{number_of_codex32_error, number_of_derive_error}
-use Rattle.codex32_numbers.specs.Numbers.{number_of_codex32_encode_error, number_of_header_error}
-use Rattle.codex32_numbers.specs.Numbers.{number_of_payload_error, number_of_split_error}
+use Rattle.codex32.specs.Numbers.{number_of_codex32_error, number_of_derive_error}
+use Rattle.codex32.specs.Numbers.{number_of_codex32_encode_error, number_of_header_error}
+use Rattle.codex32.specs.Numbers.{number_of_payload_error, number_of_split_error}
 use Rattle.codex32_calls.specs.declared.refusal.Refusal.{Refusal}
 use Rattle.codex32_calls.specs.declared.refusal.Refusal.TheVariants.{NotUtf8, BadLengths, Text}
 use Rattle.codex32_calls.specs.declared.refusal.Refusal.TheVariants.{InvalidCharacter, MixedCase}

@@ -5,7 +5,7 @@
 //! refusal nothing changes at all. No function takes any memory but what a caller lends to
 //! [`propose::nearest_of`].
 //!
-//! Below it: `codex32`, `codex32_numbers`, `caller_memory`.
+//! Below it: `codex32`, `caller_memory`.
 //! Standard: BIP-93.
 #![tactic(auto)]
 

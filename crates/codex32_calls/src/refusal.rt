@@ -4,11 +4,11 @@ ghost use Rattle.std.specs.Prelude.{◌≡◌};
 ghost use Rattle.bech32_numbers.specs.Numbers.{HasNumber};
 ghost use Rattle.codex32_calls.specs.Numbers.{number_of_codex32_refusal};
 
-use codex32::{Codex32Error, DeriveError, EncodeError, HeaderError, PayloadError, SplitError};
-use codex32_numbers::{
+use codex32::numbers::{
     codex32_error_number, derive_error_number, encode_error_number, header_error_number,
     payload_error_number, split_error_number,
 };
+use codex32::{Codex32Error, DeriveError, EncodeError, HeaderError, PayloadError, SplitError};
 
 /// Why a call writes nothing.
 #[derive(Clone, Copy)]

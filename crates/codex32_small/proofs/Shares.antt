@@ -36,7 +36,7 @@ use Rattle.codex32.proofs.HeaderFaults.{body_refused}
 use Rattle.codex32.proofs.Refused.{IsFramedBy, framed_by-from, lowered_ms, none_share_index, none_threshold}
 use Rattle.codex32.proofs.ShareParts.{fits, polynomial_of_ms}
 use Rattle.codex32.proofs.ShareStrings.{share_of_text}
-use Rattle.codex32_numbers.specs.Numbers.{number_of_codex32_error}
+use Rattle.codex32.specs.Numbers.{number_of_codex32_error}
 use Rattle.codex32_small.specs.Parts.{HasDataPart}
 
 -- ---- the header of characters that were tested

@@ -22,7 +22,7 @@ use Rattle.codex32_calls.specs.Faults.{IsNumberOfCodex32}
 use Rattle.codex32_calls.specs.Payload.{IsEncodePayloadFault, IsEncodedPayloadOf, IsPayload}
 use Rattle.codex32_calls.specs.declared.propose.Kind.{Kind}
 use Rattle.codex32_calls.specs.declared.refusal.Refusal.TheVariants as refusals
-use Rattle.codex32_numbers.specs.Numbers.{number_of_header_error}
+use Rattle.codex32.specs.Numbers.{number_of_header_error}
 use Rattle.codex32_steady.specs.texts.Parts.{ms}
 use Rattle.codex32_small.specs.Code.{code_of_kind}
 use Rattle.codex32_small.proofs.Checksums.{checksum-from_remainder}

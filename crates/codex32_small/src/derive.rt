@@ -13,16 +13,16 @@ ghost use Rattle.codex32.specs.Share.{AreSharesOf, IsShareOf};
 ghost use Rattle.codex32_calls.specs.Derive.{CanDerive, IsAsked, IsDeriveFault, IsTextsFault, PutsDerived, are_lengths, texts_of};
 ghost use Rattle.codex32_calls.specs.Faults.{IsNumberOfCodex32};
 ghost use Rattle.codex32_calls.specs.Share.{IsEitherFault};
-ghost use Rattle.codex32_numbers.specs.Numbers.{number_of_derive_error};
+ghost use Rattle.codex32.specs.Numbers.{number_of_derive_error};
 ghost use Rattle.codex32_steady.specs.shares.Shares.{IsGiven};
 ghost use Rattle.codex32_small.specs.Parts.{HasHeader, share_of_part, shares_of};
 
 use crate::part::Part;
 use crate::share::data_part_of;
 use bech32_gf::gf32::Fe32;
+use codex32::numbers::{derive_error_number, header_error_number};
 use codex32::{DeriveError, Header, Identifier, Threshold};
 use codex32_calls::input::share_index_of;
-use codex32_numbers::{derive_error_number, header_error_number};
 use codex32_steady::shares::agreement::given_at;
 use codex32_steady::shares::once::are_indices_once;
 use codex32_steady::texts::text::put_spelled;

@@ -8,7 +8,7 @@ ghost use Rattle.codex32.specs.Header.{header_elements};
 ghost use Rattle.codex32_calls.specs.Encode.{CanEncode, IsEncodeStringFault, IsHeaderOf, PutsEncoded, header_number_fault};
 ghost use Rattle.codex32_calls.specs.Faults.{IsNumberOfCodex32};
 ghost use Rattle.codex32_calls.specs.Payload.{CanEncodePayload, IsEncodePayloadFault, PutsEncodedPayload};
-ghost use Rattle.codex32_numbers.specs.Numbers.{number_of_header_error};
+ghost use Rattle.codex32.specs.Numbers.{number_of_header_error};
 ghost use Rattle.codex32_steady.specs.texts.Parts.{ms};
 ghost use Rattle.codex32_small.specs.Code.{code_of_kind};
 ghost use Rattle.codex32_small.specs.Given.{IsGivenAs, elements_given};
@@ -16,9 +16,9 @@ ghost use Rattle.codex32_small.specs.Given.{IsGivenAs, elements_given};
 use crate::letters::{put_bytes, put_characters};
 use crate::register::{degree_of, put_checksum};
 use codex32::Header;
+use codex32::numbers::header_error_number;
 use codex32_calls::input::{header_of, validate_payload};
 use codex32_calls::propose::Kind;
-use codex32_numbers::header_error_number;
 use codex32_steady::character_of;
 
 // The number of bytes of which no string is made.

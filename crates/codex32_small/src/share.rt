@@ -11,17 +11,17 @@ ghost use Rattle.codex32.specs.Strings.{codex32_length_fault, frame_refusal_by, 
 ghost use Rattle.codex32.specs.declared.share.Share.{Share as AShare};
 ghost use Rattle.codex32_calls.specs.Faults.{IsNumberOfCodex32};
 ghost use Rattle.codex32_calls.specs.Share.{CanReadShare, IsEitherFault, IsShareFault, IsTold, PutsShare};
-ghost use Rattle.codex32_numbers.specs.Numbers.{number_of_codex32_error};
+ghost use Rattle.codex32.specs.Numbers.{number_of_codex32_error};
 ghost use Rattle.codex32_small.specs.Code.{code_of_kind};
 ghost use Rattle.codex32_small.specs.Parts.{HasDataPart};
 
 use crate::letters::in_lower_case;
 use crate::register::{degree_of, has_target};
 use bech32_decode::data_bytes_count;
+use codex32::numbers::codex32_error_number;
 use codex32::{Codex32Error, validate_header};
 use codex32_calls::input::text_of;
 use codex32_calls::propose::Kind;
-use codex32_numbers::codex32_error_number;
 use codex32_steady::texts::parts::parts_of;
 use codex32_steady::texts::payload::put_payload_bytes;
 

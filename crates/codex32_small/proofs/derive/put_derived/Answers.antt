@@ -16,7 +16,7 @@ use Rattle.codex32_calls.specs.Faults.{IsNumberOfCodex32}
 use Rattle.codex32_calls.specs.Share.{IsEitherFault}
 use Rattle.codex32_calls.specs.declared.refusal.Refusal.TheVariants as refusals
 use Rattle.codex32_calls.proofs.TextsInTurn.{fault-behind, fault-first, refused-from_texts, shares-first, whole-behind}
-use Rattle.codex32_numbers.specs.Numbers.{number_of_derive_error}
+use Rattle.codex32.specs.Numbers.{number_of_derive_error}
 use Rattle.codex32_small.specs.Parts.{share_of_part, shares_of}
 use Rattle.codex32_small.specs.declared.part.Part.{Part}
 use Rattle.codex32_small.proofs.Parts.{none_of, shares-append, shares-take}

@@ -2,16 +2,12 @@
 //! print or return in their place. An error that carries another has its number.
 //!
 //! Numbers from 1 to 9 and from 93 are left to the programs.
-//!
-//! Below it: `codex32`, `bech32_numbers`.
-//! Standard: none.
-#![tactic(auto)]
 
 ghost use Rattle.bech32_numbers.specs.Numbers.{HasNumber};
-ghost use Rattle.codex32_numbers.specs.Numbers.{number_of_codex32_error, number_of_derive_error, number_of_codex32_encode_error, number_of_header_error, number_of_payload_error, number_of_split_error};
+ghost use Rattle.codex32.specs.Numbers.{number_of_codex32_error, number_of_derive_error, number_of_codex32_encode_error, number_of_header_error, number_of_payload_error, number_of_split_error};
 
+use crate::{Codex32Error, DeriveError, EncodeError, HeaderError, PayloadError, SplitError};
 use bech32_numbers::{checksum_error_number, text_error_number};
-use codex32::{Codex32Error, DeriveError, EncodeError, HeaderError, PayloadError, SplitError};
 
 /// The number, 11 to 33, 81 to 84 or 91, of a text that is not a codex32 string, or for which no
 /// nearest text is looked for.
