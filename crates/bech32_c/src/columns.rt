@@ -1,19 +1,19 @@
 //! Whole columns of texts and of segwit addresses: each row as by the call for one.
 
 ghost use Rattle.std.specs.Prelude.{◌≡◌, ◌≢◌, ◌<◌, ◌≤◌, ◌⊎◌, ◌+◌, ◌/◌, length};
-ghost use Rattle.bech32_columns.specs.Checked.{CanCheck, PutsNumbers};
+ghost use Rattle.bech32_more_calls.specs.columns.Checked.{CanCheck, PutsNumbers};
 ghost use Rattle.bech32_calls.specs.Faults.{IsNumberOf};
-ghost use Rattle.bech32_columns.specs.Decoded.{CanDecodeMany, IsDecodeManyFault, PutsAddresses};
-ghost use Rattle.bech32_columns.specs.Encoded.{PutsTexts};
-ghost use Rattle.bech32_columns.specs.Rows.{HasRows};
-ghost use Rattle.bech32_columns.specs.Validity.{PutsValidity, accepted_of};
+ghost use Rattle.bech32_more_calls.specs.columns.Decoded.{CanDecodeMany, IsDecodeManyFault, PutsAddresses};
+ghost use Rattle.bech32_more_calls.specs.columns.Encoded.{PutsTexts};
+ghost use Rattle.bech32_more_calls.specs.columns.Rows.{HasRows};
+ghost use Rattle.bech32_more_calls.specs.columns.Validity.{PutsValidity, accepted_of};
 
 use bech32_calls::refusal::Refusal;
-use bech32_columns::check::check_many;
-use bech32_columns::column::Column;
-use bech32_columns::decode::{Addresses, decode_many};
-use bech32_columns::encode::{Programs, encode_many};
-use bech32_columns::validity::put_validity;
+use bech32_more_calls::columns::check::check_many;
+use bech32_more_calls::columns::column::Column;
+use bech32_more_calls::columns::decode::{Addresses, decode_many};
+use bech32_more_calls::columns::encode::{Programs, encode_many};
+use bech32_more_calls::columns::validity::put_validity;
 
 // Tells how many rows are put, and returns the number of the call: 92 where not all are.
 fn told(rows: usize, count: usize, done: &mut usize) -> u32

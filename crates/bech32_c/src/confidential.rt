@@ -6,15 +6,15 @@ ghost use Rattle.blech32.specs.Words.{blech32_code};
 ghost use Rattle.bech32_calls.specs.Faults.{IsNumberOf};
 ghost use Rattle.bech32_calls.specs.Nearest.{IsRead};
 ghost use Rattle.liquid.specs.Confidential.{IsConfidentialText};
-ghost use Rattle.liquid_calls.specs.Address.{HasRoomForConfidential, IsLiquidDecodeFault, IsLiquidEncodeFault};
-ghost use Rattle.liquid_calls.specs.Address.{PutsConfidential, PutsParts};
-ghost use Rattle.liquid_calls.specs.Nearest.{IsLiquidAsked, IsLiquidNearFaultOrKept, PutsFirstLiquidNear, PutsLiquidNear};
-ghost use Rattle.liquid_calls.specs.Numbers.{IsNumberOfLiquid};
+ghost use Rattle.bech32_more_calls.specs.confidential.Address.{HasRoomForConfidential, IsLiquidDecodeFault, IsLiquidEncodeFault};
+ghost use Rattle.bech32_more_calls.specs.confidential.Address.{PutsConfidential, PutsParts};
+ghost use Rattle.bech32_more_calls.specs.confidential.Nearest.{IsLiquidAsked, IsLiquidNearFaultOrKept, PutsFirstLiquidNear, PutsLiquidNear};
+ghost use Rattle.bech32_more_calls.specs.confidential.Numbers.{IsNumberOfLiquid};
 
 use crate::listed::counted;
+use bech32_more_calls::confidential::address::{decoded, encoded};
+use bech32_more_calls::confidential::nearest::put_nearest;
 use caller_memory::Memory;
-use liquid_calls::address::{decoded, encoded};
-use liquid_calls::nearest::put_nearest;
 
 /// Encodes a confidential address of a witness version, which is to be 0, a blinding key and a
 /// program, as `liquid::encode` does. It is put at the front of `text`, in lower case, and

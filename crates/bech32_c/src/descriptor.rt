@@ -5,18 +5,18 @@ ghost use Rattle.caller_memory.specs.Memory.{IsKept};
 ghost use Rattle.bech32_descriptor.specs.Descriptor.{IsCheckRefusal, IsDescriptor, is_stranger, stranger_in};
 ghost use Rattle.bech32_descriptor.specs.Pairs.{max_length_for_two};
 ghost use Rattle.bech32_descriptor.specs.declared.error.CheckError.{CheckError as ACheckError};
-ghost use Rattle.descriptor_calls.specs.Checks.{IsPutFault, PutsChecksum, number_of_check, number_of_put};
-ghost use Rattle.descriptor_calls.specs.Mends.{IsMendFault, PutsFirstMends, PutsMends, number_of_mend};
-ghost use Rattle.descriptor_calls.specs.TwoMends.{IsTwoMendFault, PutsFirstTwoMends, PutsTwoMends};
-ghost use Rattle.descriptor_calls.specs.declared.checks.PutError.{PutError as APutError};
-ghost use Rattle.descriptor_calls.specs.declared.mends.MendRefusal.{MendRefusal as AMendRefusal};
+ghost use Rattle.bech32_more_calls.specs.descriptor.Checks.{IsPutFault, PutsChecksum, number_of_check, number_of_put};
+ghost use Rattle.bech32_more_calls.specs.descriptor.Mends.{IsMendFault, PutsFirstMends, PutsMends, number_of_mend};
+ghost use Rattle.bech32_more_calls.specs.descriptor.TwoMends.{IsTwoMendFault, PutsFirstTwoMends, PutsTwoMends};
+ghost use Rattle.bech32_more_calls.specs.declared.descriptor.checks.PutError.{PutError as APutError};
+ghost use Rattle.bech32_more_calls.specs.declared.descriptor.mends.MendRefusal.{MendRefusal as AMendRefusal};
 
 use crate::listed::counted;
 use bech32_descriptor::{CheckError, check};
+use bech32_more_calls::descriptor::checks::{PutError, check_number, put_checksum};
+use bech32_more_calls::descriptor::mends::put_mends;
+use bech32_more_calls::descriptor::two_mends::put_two_mends;
 use caller_memory::Memory;
-use descriptor_calls::checks::{PutError, check_number, put_checksum};
-use descriptor_calls::mends::put_mends;
-use descriptor_calls::two_mends::put_two_mends;
 
 /// Computes the checksum of a descriptor (BIP-380), which is given without `#` and checksum. Its
 /// eight characters are put at the front of `checksum`, and `checksum_length` is then 8.

@@ -11,8 +11,7 @@
 //! these pointers may be null, but one beside a length of 0, which nothing follows; and what one
 //! points to may not overlap with what a `&mut` does.
 //!
-//! Below it: `bech32_calls`, `bech32_columns`, `liquid_calls`, `descriptor_calls`,
-//! `bech32_numbers`.
+//! Below it: `bech32_calls`, `bech32_more_calls`, `bech32_numbers`.
 //! Standard: BIP-173; BIP-350; BIP-380.
 #![tactic(auto)]
 

@@ -14,7 +14,7 @@ use Rattle.b32_replies.proofs.FewLocations.{each_few, each_given, no_more, same_
 use Rattle.line_program.specs.Refused.{SaysRefusal, err}
 use Rattle.bech32_numbers.specs.Numbers.{number_of_correct_error}
 use Rattle.blech32.specs.Words.{blech32_code}
-use Rattle.liquid_calls.specs.Nearest.{IsLiquidAsked}
+use Rattle.bech32_more_calls.specs.confidential.Nearest.{IsLiquidAsked}
 use Rattle.mend.specs.Reply.{IsLiquidAnswer, IsLiquidNearAnswer, IsNearTextsAnswer, IsNearTextsRefusal, SaysNear}
 use Rattle.mend.specs.Request.{errors_of_word, liquid_errors_of_word}
 

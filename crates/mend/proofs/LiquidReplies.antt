@@ -9,7 +9,7 @@ use Rattle.bech32_near.specs.NearTexts.{AreNearTexts}
 use Rattle.blech32.specs.Words.{blech32_code}
 use Rattle.line_program.specs.Refused.{SaysRefusal, err}
 use Rattle.bech32_numbers.specs.Numbers.{number_of_correct_error}
-use Rattle.liquid_calls.specs.Nearest.{IsLiquidAsked}
+use Rattle.bech32_more_calls.specs.confidential.Nearest.{IsLiquidAsked}
 use Rattle.mend.specs.Reply.{IsLiquidAnswer, IsLiquidNearAnswer, IsNearTextsRefusal, SaysLiquid}
 use Rattle.mend.specs.Request.{liquid_errors_of_word}
 use Rattle.mend.proofs.Replies.{spaced_of}

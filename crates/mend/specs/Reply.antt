@@ -43,7 +43,7 @@ use Rattle.blech32.specs.Words.{blech32_code}
 use Rattle.b32_replies.specs.Locations.{AreLocations, IsNoListOfLocations}
 use Rattle.b32_replies.specs.Request.{code_of_name}
 use Rattle.line_program.specs.Refused.{SaysRefusal, err}
-use Rattle.liquid_calls.specs.Nearest.{IsLiquidAsked}
+use Rattle.bech32_more_calls.specs.confidential.Nearest.{IsLiquidAsked}
 use Rattle.mend.specs.Found.{said_of_found}
 use Rattle.mend.specs.Numbers.{number_of_mend_error}
 use Rattle.mend.specs.Request.{MendRequest, Nearest, NearestAt, Edits, Fault, Suggest, Checksum}

@@ -12,10 +12,10 @@ use crate::command::errors_in;
 use crate::found::said_of;
 use crate::numbers::{BAD_WORD, NO_MEMORY};
 use bech32::{CorrectError, nearest};
+use bech32_more_calls::confidential::nearest::is_asked;
 use bech32_numbers::correct_error_number;
 use line_program::append_any;
 use liquid::Blech32;
-use liquid_calls::nearest::is_asked;
 use std::alloc::Global;
 
 // How many errors a word allows: 0 to 3.

@@ -1,7 +1,7 @@
 //! Answers each line of standard input about mistyped texts.
 //!
 //! Below it: `bech32`, `bech32_calls`, `bech32_descriptor`, `bech32_suggest`, `bech32_numbers`,
-//! `liquid`, `liquid_calls`, `line_program`, `b32_replies`.
+//! `liquid`, `bech32_more_calls`, `line_program`, `b32_replies`.
 //! Standard: BIP-173; BIP-350; BIP-380; Elements, `src/blech32.cpp` and `src/key_io.cpp`.
 #![tactic(auto)]
 

@@ -2,7 +2,7 @@ use crate::columns::{
     bech32_check_many, bech32_segwit_decode_many, bech32_segwit_encode_many, bech32_validity_of,
 };
 use crate::tests::{BEFORE, LENGTH_BEFORE, same};
-use bech32_columns::column::Column;
+use bech32_more_calls::columns::column::Column;
 
 // An address in upper case, a text of Bech32, an address with a wrong character, and one of another
 // version, human-readable part and length.

@@ -1,6 +1,6 @@
 use Rattle.std.proofs.Common.{◌≡◌, ◌∙◌, length, sym}
-use Rattle.bech32_columns.specs.Decoded.{IsDecodeManyFault}
-use Rattle.bech32_columns.proofs.Small.{not_refused, not_room}
+use Rattle.bech32_more_calls.specs.columns.Decoded.{IsDecodeManyFault}
+use Rattle.bech32_more_calls.proofs.Small.{not_refused, not_room}
 use Rattle.bech32_c.proofs.columns.bech32_segwit_decode_many.Goals as goal
 
 pub returns-in-Err-clause-first : goal.returns-in-Err-clause-first

@@ -1,5 +1,5 @@
 use Rattle.std.proofs.Common.{length}
-use Rattle.liquid_calls.proofs.Addresses.{no_encode_fault}
+use Rattle.bech32_more_calls.proofs.Addresses.{no_encode_fault}
 use Rattle.bech32_c.proofs.confidential.bech32_liquid_encode.Goals as goal
 
 pub returns-in-Err-clause-accepts : goal.returns-in-Err-clause-accepts

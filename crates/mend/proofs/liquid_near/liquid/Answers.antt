@@ -1,5 +1,5 @@
 use Rattle.std.proofs.Common.{refl, sym}
-use Rattle.liquid_calls.specs.Nearest.{IsLiquidAsked}
+use Rattle.bech32_more_calls.specs.confidential.Nearest.{IsLiquidAsked}
 use Rattle.mend.proofs.LiquidReplies.{liquid-answer, liquid-bad_word, liquid-not_asked}
 use Rattle.mend.proofs.Replies.{adds-wider}
 use Rattle.mend.proofs.liquid_near.liquid.Goals as goal

@@ -1,6 +1,0 @@
-pub mod Bits
-pub mod Held
-pub mod Rowed
-pub mod Said
-pub mod Small
-pub mod Written

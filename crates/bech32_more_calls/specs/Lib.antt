@@ -1,0 +1,3 @@
+pub mod columns
+pub mod confidential
+pub mod descriptor

@@ -1,2 +1,0 @@
-mod Puts
-mod TwoPuts

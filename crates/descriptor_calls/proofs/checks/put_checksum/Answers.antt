@@ -1,5 +1,0 @@
-use Rattle.std.proofs.Common.{◌<◌, length, arith}
-use Rattle.descriptor_calls.proofs.checks.put_checksum.Goals as goal
-
-pub returns-then-buffer-lt8-clause-refused : goal.returns-then-buffer-lt8-clause-refused
-returns-then-buffer-lt8-clause-refused c = (c.in-Ok.ensures.characters_are, c.if-buffer-lt8.true)
