@@ -1,1 +1,3 @@
 mod Turns
+pub mod Checksums
+pub mod Cuts

@@ -1,3 +1,4 @@
 pub mod Iterators
 pub mod Seven
 pub mod TestWords
+pub mod PlainChecksum

@@ -1,5 +1,5 @@
-//! What tests share: comparisons, iterators, an allocator that refuses, and a field and checksums
-//! of their own.
+//! What tests share: comparisons, iterators, an allocator that refuses, a field and checksums of
+//! their own, and the definitions as slow code.
 #![tactic(auto)]
 
 pub mod code;
@@ -9,5 +9,6 @@ pub mod heaps;
 pub mod iterators;
 pub mod known;
 pub mod memory;
+pub mod plain;
 pub mod seven;
 pub mod writers;

@@ -3,7 +3,7 @@
 use bech32::primitives::decode::{ChecksumError, UncheckedHrpstring};
 use bech32::{Bech32, Bech32m, Checksum, EncodeError, Hrp, encode};
 use std::alloc::Global;
-use testing_plain::PlainChecksum;
+use testing_tools::plain::PlainChecksum;
 
 /// Why a checksum refuses a text; `None` where it does not, or where there is no text.
 pub fn checksum_error<Ck: Checksum>(text: &str) -> Option<ChecksumError> {

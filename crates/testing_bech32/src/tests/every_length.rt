@@ -8,7 +8,7 @@ use bech32::{
 };
 use linked_list_allocator::LocalHeap;
 use std::alloc::{AllocError, Global};
-use testing_plain::PlainChecksum;
+use testing_tools::plain::PlainChecksum;
 
 // Bytes of which the first ones are in a text.
 fn bytes() -> [u8; 80] {

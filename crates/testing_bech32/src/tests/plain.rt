@@ -5,7 +5,7 @@ use bech32::{Hrp, decode};
 use bech32_bits::plain::plain_to_fes;
 use std::alloc::Global;
 use std::process::Abort;
-use testing_plain::{PlainChecksum, accepts, encoded_text};
+use testing_tools::plain::{PlainChecksum, accepts, encoded_text};
 
 // Texts in and out of the grammar, with right and wrong checksums.
 const TEXTS: [&str; 18] = [

@@ -12,9 +12,9 @@ use bech32::{
 use linked_list_allocator::LocalHeap;
 use std::alloc::Global;
 use std::process::Abort;
-use testing_plain::PlainChecksum;
 use testing_tools::compare::first_difference;
 use testing_tools::heaps::InHeap;
+use testing_tools::plain::PlainChecksum;
 
 // The 20 bytes of a known text.
 const PROGRAM: &[u8] = &[

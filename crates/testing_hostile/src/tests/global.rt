@@ -5,7 +5,7 @@ use crate::tests::compare::{same, same_items};
 use bech32::primitives::iter::plain::{plain_to_bytes, plain_to_fes};
 use bech32::{Fe32, Hrp};
 use std::alloc::AllocError;
-use testing_plain::{PlainChecksum, accepts, encoded_text};
+use testing_tools::plain::{PlainChecksum, accepts, encoded_text};
 
 #[test]
 fn plain_regrouping(rt: HostRuntime) {

@@ -14,7 +14,7 @@ use bech32::{
 use std::alloc::Global;
 use std::process::Abort;
 use std::{fmt, io};
-use testing_plain::PlainChecksum;
+use testing_tools::plain::PlainChecksum;
 
 /// What is written: a text by Bech32, or an address without any test.
 #[derive(Clone, Copy, Debug, PartialEq)]
