@@ -7,7 +7,7 @@ use Rattle.bech32_hrp.specs.HrpBytes.{hrp_bytes}
 use Rattle.bech32_hrp.specs.declared.Hrp.{Hrp}
 use Rattle.bech32.specs.Elements.{AreValues, IsElementsDecodeRefusal, elements_in}
 use Rattle.bech32.specs.Spelling.{IsSpelledBy, IsStrictRefusal}
-use Rattle.bech32.specs.declared.error.TextError.{TextError}
+use Rattle.bech32_refusals.specs.declared.texts.TextError.{TextError}
 use Rattle.bech32_numbers.specs.Numbers.{number_of_text_decode_error}
 use Rattle.line_program.specs.Refused.{err}
 use Rattle.b32_replies.specs.Contents.{IsDecodeByAnswer, IsDecodeByRefusal, IsDecodedTo}

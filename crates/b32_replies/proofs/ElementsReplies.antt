@@ -4,7 +4,7 @@ use Rattle.bech32_checksum.specs.Code.{Code}
 use Rattle.bech32_hrp.specs.Hrp.{hrp_refusal}
 use Rattle.bech32_hrp.specs.declared.Error.{Error as HrpError}
 use Rattle.bech32.specs.Elements.{IsElementsEncodeRefusal}
-use Rattle.bech32.specs.declared.error.ElementsError.{ElementsError}
+use Rattle.bech32_refusals.specs.declared.texts.ElementsError.{ElementsError}
 use Rattle.bech32_numbers.specs.Numbers.{number_of_elements_error, number_of_hrp_error}
 use Rattle.line_program.specs.Refused.{err}
 use Rattle.b32_replies.specs.Hex.{bytes_of}

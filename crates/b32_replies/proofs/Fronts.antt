@@ -8,8 +8,8 @@ use Rattle.bech32_bits.proofs.RoundTrip.{length-to_fes}
 use Rattle.bech32_checksum.specs.Code.{Code}
 use Rattle.bech32_encode.specs.TextLength.{encoded_length_of}
 use Rattle.bech32.specs.Elements.{elements_in}
-use Rattle.bech32.specs.declared.error.EncodeError.TheVariants as encode_errors
-use Rattle.bech32.specs.declared.error.ElementsError.TheVariants as elements_errors
+use Rattle.bech32_refusals.specs.declared.texts.EncodeError.TheVariants as encode_errors
+use Rattle.bech32_refusals.specs.declared.texts.ElementsError.TheVariants as elements_errors
 use Rattle.b32_replies.specs.Numbers.{number_of_reply}
 use Rattle.b32_replies.specs.Reply.{IsLongWritten, IsNotWritten, elements_by}
 use Rattle.b32_replies.specs.Written.{IsTextOrRefusal}

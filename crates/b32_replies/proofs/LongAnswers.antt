@@ -13,9 +13,9 @@ use Rattle.bech32.specs.Elements.{AreValues, IsElementsDecodeRefusal, elements_i
 use Rattle.bech32.specs.Refusals.{IsEncodeRefusal}
 use Rattle.bech32.specs.Spelling.{IsSpelledBy, IsStrictRefusal}
 use Rattle.bech32.proofs.Spellings.{parts-from_spelling}
-use Rattle.bech32.specs.declared.error.EncodeError.{EncodeError}
-use Rattle.bech32.specs.declared.error.TextError.{TextError}
-use Rattle.bech32.specs.declared.error.TextError.TheVariants.{Memory as no_text_memory}
+use Rattle.bech32_refusals.specs.declared.texts.EncodeError.{EncodeError}
+use Rattle.bech32_refusals.specs.declared.texts.TextError.{TextError}
+use Rattle.bech32_refusals.specs.declared.texts.TextError.TheVariants.{Memory as no_text_memory}
 use Rattle.bech32_numbers.specs.Numbers.{number_of_hrp_error}
 use Rattle.blech32.specs.Words.{blech32_code}
 use Rattle.liquid.specs.Confidential.{IsLowerConfidential}

@@ -4,7 +4,7 @@ use Rattle.bech32_bits.specs.Bits.{to_fes}
 use Rattle.bech32_checksum.specs.Code.{Code}
 use Rattle.bech32.specs.Elements.{AreValues, IsElementsDecodeRefusal, elements_in}
 use Rattle.bech32.specs.Spelling.{IsSpelledBy, IsStrictRefusal}
-use Rattle.bech32.specs.declared.error.TextError.{TextError}
+use Rattle.bech32_refusals.specs.declared.texts.TextError.{TextError}
 use Rattle.b32_replies.specs.Reply.{IsElementsAnswer, IsStrictAnswer}
 use Rattle.b32_replies.specs.declared.content.Content.{Content}
 use Rattle.b32_replies.specs.declared.content.Content.TheVariants.{Bytes, Elements}

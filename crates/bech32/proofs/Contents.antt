@@ -8,7 +8,7 @@ use Rattle.bech32_decode.specs.BeforeChecksum.{IsBeforeChecksum}
 use Rattle.bech32.specs.Contents.{IsContentOf, IsContentRefusal, IsTested, content_of}
 use Rattle.bech32.specs.declared.content.Content.{Content}
 use Rattle.bech32.specs.declared.content.Content.TheVariants.{Bytes, Elements}
-use Rattle.bech32.specs.declared.error.TextError.TheVariants.{Memory}
+use Rattle.bech32_refusals.specs.declared.texts.TextError.TheVariants.{Memory}
 use Rattle.bech32.proofs.Spellings.{spells-from_padded}
 
 -- a buffer of its size holds what was put at its front

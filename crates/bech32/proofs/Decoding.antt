@@ -8,8 +8,8 @@ use Rattle.bech32_decode.specs.Acceptance.{Accepts}
 use Rattle.bech32_decode.proofs.Decoding.{valid-from_accepts, not_valid}
 use Rattle.bech32_decode.proofs.Grammar.{text_refusal-none}
 use Rattle.bech32.specs.Refusals.{IsDecodeRefusal}
-use Rattle.bech32.specs.declared.error.DecodeError.{DecodeError}
-use Rattle.bech32.specs.declared.error.DecodeError.TheVariants.{Parse, Checksum, Memory}
+use Rattle.bech32_refusals.specs.declared.texts.DecodeError.{DecodeError}
+use Rattle.bech32_refusals.specs.declared.texts.DecodeError.TheVariants.{Parse, Checksum, Memory}
 
 -- what is accepted is decoded, unless out of memory
 pub decoded-from_refusal : {D : Type 0} (text : List ℕ) → IsUtf8 text → (r : Result D DecodeError) → IfErr r (λ e. IsDecodeRefusal text e)

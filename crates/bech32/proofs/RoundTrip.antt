@@ -20,8 +20,8 @@ use Rattle.bech32_bits.proofs.RoundTrip.{to_bytes-to_fes}
 use Rattle.bech32_decode.specs.Acceptance.{IsAccepted, Accepts, IsDecoded}
 use Rattle.bech32_decode.specs.Text.{IsText}
 use Rattle.bech32.specs.Refusals.{IsDecodeRefusal}
-use Rattle.bech32.specs.declared.error.DecodeError.{DecodeError}
-use Rattle.bech32.specs.declared.error.DecodeError.TheVariants.{Memory}
+use Rattle.bech32_refusals.specs.declared.texts.DecodeError.{DecodeError}
+use Rattle.bech32_refusals.specs.declared.texts.DecodeError.TheVariants.{Memory}
 use Rattle.bech32.proofs.Decoding.{decoded-from_refusal}
 use Rattle.bech32_decode.proofs.Grammar.{only-from_IsText}
 use Rattle.bech32_decode.proofs.Spelling.{IsSpelled, characters-elements, spelled-lower, spelled-text}

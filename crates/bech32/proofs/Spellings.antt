@@ -31,10 +31,10 @@ use Rattle.bech32_refusals.specs.declared.error.CheckedHrpstringError.TheVariant
 use Rattle.bech32_refusals.specs.declared.error.ChecksumError.{ChecksumError}
 use Rattle.bech32_refusals.specs.declared.error.PaddingError.{PaddingError}
 use Rattle.bech32_refusals.specs.declared.error.PaddingError.TheVariants.{TooMuch, NonZero}
-use Rattle.bech32.specs.Carried.{of_checked_text}
+use Rattle.bech32_refusals.specs.Texts.{of_checked_text}
 use Rattle.bech32.specs.Spelling.{IsSpelling, IsOnlySpelling, IsSpelledBy, IsPaddedText, SpellsBytes, IsStrictRefusal}
-use Rattle.bech32.specs.declared.error.TextError.{TextError}
-use Rattle.bech32.specs.declared.error.TextError.TheVariants.{Parse, Checksum, Padding, Memory}
+use Rattle.bech32_refusals.specs.declared.texts.TextError.{TextError}
+use Rattle.bech32_refusals.specs.declared.texts.TextError.TheVariants.{Parse, Checksum, Padding, Memory}
 use Rattle.bech32.proofs.RoundTrip.{accepted-from_spelled}
 
 -- the elements of a data part are those before its checksum, and those of the checksum

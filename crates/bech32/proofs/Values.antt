@@ -24,11 +24,11 @@ use Rattle.bech32_encode.proofs.Encoding.{filled_buffer}
 use Rattle.bech32_refusals.specs.declared.error.CodeLengthError.{CodeLengthError}
 use Rattle.bech32_refusals.specs.declared.error.CheckedHrpstringError.{CheckedHrpstringError}
 use Rattle.bech32_refusals.specs.declared.error.CheckedHrpstringError.TheVariants.{Parse as NoText, Checksum as NotAccepted}
-use Rattle.bech32.specs.Carried.{of_checked_text}
+use Rattle.bech32_refusals.specs.Texts.{of_checked_text}
 use Rattle.bech32.specs.Elements.{AreValues, IsElementsDecodeRefusal, IsInElements, elements_in, first_above}
 use Rattle.bech32.specs.Spelling.{IsSpelledBy, IsSpelling}
-use Rattle.bech32.specs.declared.error.TextError.{TextError}
-use Rattle.bech32.specs.declared.error.TextError.TheVariants.{Parse, Checksum, Padding, Memory}
+use Rattle.bech32_refusals.specs.declared.texts.TextError.{TextError}
+use Rattle.bech32_refusals.specs.declared.texts.TextError.TheVariants.{Parse, Checksum, Padding, Memory}
 use Rattle.bech32.proofs.Spellings.{not_refused, not_unread, parts-from_spelling, same_parts, spelled-from_parts}
 
 -- ---- numbers above 31

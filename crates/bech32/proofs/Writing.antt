@@ -4,8 +4,8 @@ use Rattle.devices.proofs.Through.{writes_through}
 use Rattle.bech32_gf.specs.declared.gf32.Fe32.{Fe32}
 use Rattle.bech32_checksum.specs.Code.{Code}
 use Rattle.bech32.specs.Writing.{WritesText, IsFmtRefusal, IsIoRefusal}
-use Rattle.bech32.specs.declared.error.EncodeError.{EncodeError}
-use Rattle.bech32.specs.declared.error.EncodeError.TheVariants.{TooLong, Fmt, Memory}
+use Rattle.bech32_refusals.specs.declared.texts.EncodeError.{EncodeError}
+use Rattle.bech32_refusals.specs.declared.texts.EncodeError.TheVariants.{TooLong, Fmt, Memory}
 use Rattle.bech32.specs.declared.error.EncodeIoError.{EncodeIoError}
 use Rattle.bech32.specs.declared.error.EncodeIoError.TheVariants.{TooLong as IoTooLong, Write}
 

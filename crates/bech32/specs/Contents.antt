@@ -9,7 +9,7 @@ use Rattle.bech32.specs.Elements.{IsElementsDecodeRefusal, IsInElements}
 use Rattle.bech32.specs.Spelling.{IsPaddedText, IsStrictRefusal}
 use Rattle.bech32.specs.declared.content.Content.{Content}
 use Rattle.bech32.specs.declared.content.Content.TheVariants.{Bytes, Elements}
-use Rattle.bech32.specs.declared.error.TextError.{TextError}
+use Rattle.bech32_refusals.specs.declared.texts.TextError.{TextError}
 
 -- the bytes or the elements of characters
 abbrev pub content_of : Content → List ℕ → List ℕ

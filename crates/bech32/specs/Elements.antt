@@ -13,14 +13,14 @@ use Rattle.bech32_decode.specs.Checked.{IsRefusedByChecksum}
 use Rattle.bech32_decode.specs.Text.{text_refusal}
 use Rattle.bech32_encode.specs.TextLength.{encoded_length_of}
 use Rattle.bech32.specs.Spelling.{IsSpelling}
-use Rattle.bech32.specs.declared.error.ElementsError.{ElementsError}
-use Rattle.bech32.specs.declared.error.ElementsError.TheVariants.{
+use Rattle.bech32_refusals.specs.declared.texts.ElementsError.{ElementsError}
+use Rattle.bech32_refusals.specs.declared.texts.ElementsError.TheVariants.{
   TooLong,
   Element,
   Memory as WriteMemory,
 }
-use Rattle.bech32.specs.declared.error.TextError.{TextError}
-use Rattle.bech32.specs.declared.error.TextError.TheVariants.{Parse, Checksum, Padding, Memory}
+use Rattle.bech32_refusals.specs.declared.texts.TextError.{TextError}
+use Rattle.bech32_refusals.specs.declared.texts.TextError.TheVariants.{Parse, Checksum, Padding, Memory}
 
 -- the elements of numbers
 abbrev pub elements_in : List ℕ → List Fe32

@@ -1,4 +1,3 @@
-pub mod Carried
 pub mod Contents
 pub mod Elements
 pub mod Long

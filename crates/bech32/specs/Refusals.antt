@@ -6,11 +6,11 @@ use Rattle.bech32_decode.specs.Text.{text_refusal}
 use Rattle.bech32_decode.specs.Acceptance.{IsAcceptedByEither}
 use Rattle.bech32_decode.specs.Refusals.{IsRefusedByBoth}
 use Rattle.bech32_encode.specs.TextLength.{encoded_length_of}
-use Rattle.bech32.specs.declared.error.DecodeError.{DecodeError}
-use Rattle.bech32.specs.declared.error.DecodeError.TheVariants.{Parse, Checksum, Memory}
-use Rattle.bech32.specs.declared.error.EncodeError.{EncodeError}
-use Rattle.bech32.specs.declared.error.EncodeError.TheVariants.{TooLong, Fmt}
-use Rattle.bech32.specs.declared.error.EncodeError.TheVariants.{Memory as EncodeMemory}
+use Rattle.bech32_refusals.specs.declared.texts.DecodeError.{DecodeError}
+use Rattle.bech32_refusals.specs.declared.texts.DecodeError.TheVariants.{Parse, Checksum, Memory}
+use Rattle.bech32_refusals.specs.declared.texts.EncodeError.{EncodeError}
+use Rattle.bech32_refusals.specs.declared.texts.EncodeError.TheVariants.{TooLong, Fmt}
+use Rattle.bech32_refusals.specs.declared.texts.EncodeError.TheVariants.{Memory as EncodeMemory}
 
 -- why a text is not decoded: it is not a text, no checksum accepts it, or out of memory where one
 -- does

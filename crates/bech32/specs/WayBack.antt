@@ -8,8 +8,8 @@ use Rattle.bech32_checksum.specs.Encoded.{IsEncodedText}
 use Rattle.bech32_hrp.specs.Hrp.{IsHrp, lowered}
 use Rattle.bech32_hrp.specs.HrpBytes.{hrp_bytes}
 use Rattle.bech32_hrp.specs.declared.Hrp.{Hrp}
-use Rattle.bech32.specs.declared.error.DecodeError.{DecodeError}
-use Rattle.bech32.specs.declared.error.DecodeError.TheVariants.{Memory}
+use Rattle.bech32_refusals.specs.declared.texts.DecodeError.{DecodeError}
+use Rattle.bech32_refusals.specs.declared.texts.DecodeError.TheVariants.{Memory}
 
 -- Bech32m or Bech32 encodes bytes under a human-readable part as the text
 abbrev pub IsEncodedByEither : List ℕ → List ℕ → List ℕ → Type 0

@@ -10,8 +10,8 @@ use Rattle.bech32_checksum.specs.Code.{Code}
 use Rattle.bech32_encode.specs.Cased.{IsTextInCase}
 use Rattle.bech32_encode.specs.TextLength.{encoded_length_of}
 use Rattle.bech32_refusals.specs.declared.error.CodeLengthError.{CodeLengthError}
-use Rattle.bech32.specs.declared.error.EncodeError.{EncodeError}
-use Rattle.bech32.specs.declared.error.EncodeError.TheVariants.{TooLong, Fmt, Memory}
+use Rattle.bech32_refusals.specs.declared.texts.EncodeError.{EncodeError}
+use Rattle.bech32_refusals.specs.declared.texts.EncodeError.TheVariants.{TooLong, Fmt, Memory}
 use Rattle.bech32.specs.declared.error.EncodeIoError.{EncodeIoError}
 use Rattle.bech32.specs.declared.error.EncodeIoError.TheVariants.{TooLong as IoTooLong, Write}
 

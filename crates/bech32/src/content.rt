@@ -10,10 +10,10 @@ ghost use Rattle.bech32.specs.Contents.{IsContentOf, IsContentRefusal, IsTested,
 ghost use Rattle.bech32.specs.Spelling.{IsStrictRefusal};
 
 use crate::elements::put_elements;
-use crate::error::TextError;
 use bech32_checksum::Checksum;
 use bech32_decode::CheckedHrpstring;
 use bech32_hrp::Hrp;
+use bech32_refusals::TextError;
 use std::alloc::{AllocError, Allocator};
 
 /// What a data part without its checksum is decoded to.

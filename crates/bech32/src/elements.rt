@@ -14,12 +14,12 @@ ghost use Rattle.bech32.specs.Elements.{IsElementsDecodeRefusal, elements_in, fi
 ghost use Rattle.bech32.specs.Spelling.{IsOnlyTextOf};
 
 use crate::content::{Content, content_in};
-use crate::error::{ElementsError, TextError};
 use bech32_checksum::Checksum;
 use bech32_decode::CodeLengthError;
 use bech32_encode::put_text;
 use bech32_gf::gf32::Fe32;
 use bech32_hrp::Hrp;
+use bech32_refusals::{ElementsError, TextError};
 use std::alloc::{AllocError, Allocator, Global};
 
 /// Puts the elements of characters of the alphabet, in either case, at the front of a buffer that

@@ -39,12 +39,13 @@ pub use bech32_hrp::Hrp;
 pub use bech32_near::edits::{Change, Edit, EditsError, NearEdit, near_edits, near_edits_in};
 pub use bech32_near::search::Listings;
 pub use bech32_near::{NearTexts, nearest, nearest_in, nearest_listings};
+pub use bech32_refusals::{DecodeError, ElementsError, EncodeError, TextError};
 pub use bech32_segwit as segwit;
 use content::{Content, items_in};
 pub use elements::{
     decode_elements, decode_elements_in, elements_length, encode_elements, encode_elements_in,
 };
-pub use error::{DecodeError, ElementsError, EncodeError, EncodeIoError, TextError};
+pub use error::EncodeIoError;
 pub use long::{LongBech32, LongBech32m};
 /// [`encode`] and [`encode_in`], which write lower case.
 pub use self::{encode as encode_lower, encode_in as encode_lower_in};

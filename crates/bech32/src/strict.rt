@@ -6,9 +6,9 @@ ghost use Rattle.bech32.specs.Spelling.{GivesBytesBack, IsOnlyTextOf, IsStrictRe
 ghost use Rattle.bech32.specs.Spelling.{SpellsBytes};
 
 use crate::content::{Content, content_in};
-use crate::error::TextError;
 use bech32_checksum::Checksum;
 use bech32_hrp::Hrp;
+use bech32_refusals::TextError;
 use std::alloc::{Allocator, Global};
 
 /// Decodes a text that the checksum accepts, with memory from `alloc`: its human-readable part, in

@@ -10,8 +10,8 @@ use Rattle.bech32_checksum.specs.Encoded.{char_of_element, spelled, IsEncodedTex
 use Rattle.bech32_hrp.specs.Hrp.{IsHrp, lowered}
 use Rattle.bech32_decode.specs.Acceptance.{IsDecoded}
 use Rattle.bech32.specs.Refusals.{IsDecodeRefusal}
-use Rattle.bech32.specs.declared.error.DecodeError.{DecodeError}
-use Rattle.bech32.specs.declared.error.DecodeError.TheVariants.{Parse, Checksum as NoChecksumAccepts, Memory}
+use Rattle.bech32_refusals.specs.declared.texts.DecodeError.{DecodeError}
+use Rattle.bech32_refusals.specs.declared.texts.DecodeError.TheVariants.{Parse, Checksum as NoChecksumAccepts, Memory}
 use Rattle.bech32.proofs.RoundTrip.{back-from_outcome, decoded-from_encoded}
 use Rattle.bech32_decode.proofs.Spelling.{spelled-text}
 use Rattle.bech32_encode.specs.Buffers.{IsPut}

@@ -9,8 +9,8 @@ use Rattle.bech32_decode.specs.BeforeChecksum.{IsBeforeChecksum}
 use Rattle.bech32_decode.specs.Refusals.{IsRefusedByBoth}
 use Rattle.bech32.specs.Refusals.{IsDecodeRefusal}
 use Rattle.bech32_decode.specs.Text.{IsText}
-use Rattle.bech32.specs.declared.error.DecodeError.{DecodeError}
-use Rattle.bech32.specs.declared.error.DecodeError.TheVariants.{Parse, Checksum as NoChecksumAccepts, Memory}
+use Rattle.bech32_refusals.specs.declared.texts.DecodeError.{DecodeError}
+use Rattle.bech32_refusals.specs.declared.texts.DecodeError.TheVariants.{Parse, Checksum as NoChecksumAccepts, Memory}
 use Rattle.bech32.proofs.Decoding.{decoded-from_refusal}
 use Rattle.bech32_decode.proofs.Decoding.{before_checksum}
 use Rattle.bech32_decode.proofs.Grammar.{only-from_IsText}

@@ -19,7 +19,7 @@ use Rattle.bech32_numbers.specs.Numbers.{number_of_hrp_error}
 use Rattle.bech32_refusals.specs.declared.error.ChecksumError.{ChecksumError}
 use Rattle.bech32.specs.Elements.{AreValues, Fits, elements_in, first_above}
 use Rattle.bech32.specs.Spelling.{IsSpelledBy}
-use Rattle.bech32.specs.declared.error.TextError.TheVariants.{Parse, Checksum as NotAccepted, Memory}
+use Rattle.bech32_refusals.specs.declared.texts.TextError.TheVariants.{Parse, Checksum as NotAccepted, Memory}
 use Rattle.bech32.proofs.Spellings.{one_spelled, parts-from_spelling}
 use Rattle.bech32.proofs.Values.{are_values, decoded-from_elements, none-from_values, spelled-from_values}
 use Rattle.bech32_calls.specs.Checksums.{IsFaultOfTexts}

@@ -15,7 +15,7 @@ use Rattle.bech32_decode.specs.Text.{IsText}
 use Rattle.bech32_encode.specs.Buffers.{IsPut}
 use Rattle.bech32_refusals.specs.declared.error.ChecksumError.{ChecksumError}
 use Rattle.bech32_refusals.specs.declared.error.PaddingError.{PaddingError}
-use Rattle.bech32.specs.declared.error.TextError.TheVariants.{Parse, Checksum as NotAccepted, Padding as NotPadded, Memory}
+use Rattle.bech32_refusals.specs.declared.texts.TextError.TheVariants.{Parse, Checksum as NotAccepted, Padding as NotPadded, Memory}
 use Rattle.bech32.proofs.Spellings.{decoded-from_strict, one_spelled, parts-from_spelling, spelled-from_padded}
 use Rattle.bech32_calls.specs.Faults.{IsTextFault}
 use Rattle.bech32_calls.specs.Strict.{CanDecodeStrict, IsStrictFault, LacksRoomForBytes, PutsStrict}

@@ -10,11 +10,11 @@ use Rattle.bech32_hrp.specs.Hrp.{IsHrp}
 use Rattle.bech32.specs.Elements.{AreValues, Fits, IsElementsEncodeRefusal, IsElementsDecodeRefusal}
 use Rattle.bech32.specs.Elements.{elements_in}
 use Rattle.bech32.specs.Spelling.{IsSpelledBy, IsSpelling}
-use Rattle.bech32.specs.declared.error.ElementsError.TheVariants.{
+use Rattle.bech32_refusals.specs.declared.texts.ElementsError.TheVariants.{
   TooLong as TextTooLong,
   Element,
 }
-use Rattle.bech32.specs.declared.error.TextError.TheVariants.{
+use Rattle.bech32_refusals.specs.declared.texts.TextError.TheVariants.{
   Parse,
   Checksum as NotAccepted,
 }

@@ -6,7 +6,7 @@ use Rattle.bech32_checksum.specs.Encoded.{IsEncodedText}
 use Rattle.bech32_hrp.specs.Hrp.{IsHrp}
 use Rattle.bech32_encode.specs.TextLength.{encoded_length_of}
 use Rattle.bech32.specs.Refusals.{IsEncodeRefusal}
-use Rattle.bech32.specs.declared.error.EncodeError.TheVariants.{TooLong as TextTooLong}
+use Rattle.bech32_refusals.specs.declared.texts.EncodeError.TheVariants.{TooLong as TextTooLong}
 use Rattle.bech32_encode.specs.Buffers.{IsPut}
 use Rattle.bech32_calls.specs.Faults.{IsPartFault}
 use Rattle.bech32_calls.specs.declared.refusal.Refusal.{Refusal}

@@ -2,7 +2,7 @@
 -- number that is not taken, 67 for a byte that is no element, 91 for lent memory that does not
 -- suffice, and 92 for a buffer that is too small.
 use Rattle.std.specs.Prelude.{ℕ}
-use Rattle.bech32.specs.declared.error.EncodeError.TheVariants.{TooLong as LongText}
+use Rattle.bech32_refusals.specs.declared.texts.EncodeError.TheVariants.{TooLong as LongText}
 use Rattle.bech32_numbers.specs.Numbers.{number_of_hrp_error, number_of_text_error}
 use Rattle.bech32_numbers.specs.Numbers.{number_of_checksum_error}
 use Rattle.bech32_numbers.specs.Numbers.{number_of_address_error, number_of_no_correction}

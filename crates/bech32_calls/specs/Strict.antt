@@ -6,7 +6,7 @@ use Rattle.bech32_checksum.specs.Code.{Code}
 use Rattle.bech32_encode.specs.Buffers.{IsPut}
 use Rattle.bech32_hrp.specs.Hrp.{IsHrp}
 use Rattle.bech32.specs.Spelling.{IsSpelledBy, IsSpelling, IsStrictRefusal}
-use Rattle.bech32.specs.declared.error.TextError.TheVariants.{
+use Rattle.bech32_refusals.specs.declared.texts.TextError.TheVariants.{
   Parse,
   Checksum as NotAccepted,
   Padding as NotPadded,

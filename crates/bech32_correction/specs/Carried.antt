@@ -6,6 +6,8 @@ use Rattle.bech32_refusals.specs.declared.error.CheckedHrpstringError.{CheckedHr
 use Rattle.bech32_refusals.specs.declared.error.CheckedHrpstringError.TheVariants as checked
 use Rattle.bech32_refusals.specs.declared.error.SegwitHrpstringError.{SegwitHrpstringError}
 use Rattle.bech32_refusals.specs.declared.error.SegwitHrpstringError.TheVariants as segwit
+use Rattle.bech32_refusals.specs.declared.texts.DecodeError.{DecodeError}
+use Rattle.bech32_refusals.specs.declared.texts.DecodeError.TheVariants as decoding
 
 abbrev pub of_checked : CheckedHrpstringError → Option InvalidResidueError
 of_checked (checked.Checksum e) = of_checksum e
@@ -20,3 +22,8 @@ of_segwit (segwit.InvalidWitnessVersion version) = None
 of_segwit (segwit.Padding e) = None
 of_segwit (segwit.WitnessLength e) = None
 of_segwit segwit.Memory = None
+
+abbrev pub of_decoding : DecodeError → Option InvalidResidueError
+of_decoding (decoding.Checksum e) = of_checksum e
+of_decoding (decoding.Parse e) = None
+of_decoding decoding.Memory = None

@@ -8,7 +8,7 @@ use crate::corrector::Corrector;
 use bech32_checksum::Checksum;
 use bech32_finders::residue_error_of;
 use bech32_refusals::{
-    CheckedHrpstringError, ChecksumError, InvalidResidueError, SegwitHrpstringError,
+    CheckedHrpstringError, ChecksumError, DecodeError, InvalidResidueError, SegwitHrpstringError,
 };
 use std::alloc::Allocator;
 
@@ -107,6 +107,19 @@ impl CorrectableError for SegwitHrpstringError {
         match self {
             SegwitHrpstringError::Checksum(e) => e.residue_error(),
             _ => None,
+        }
+    }
+}
+
+impl CorrectableError for DecodeError {
+    ghost use Rattle.bech32_correction.specs.Carried.{of_decoding};
+
+    ghost carried = { of_decoding };
+
+    fn residue_error(&self) -> Option<&InvalidResidueError> {
+        match self {
+            DecodeError::Checksum(e) => e.residue_error(),
+            DecodeError::Parse(_) | DecodeError::Memory => None,
         }
     }
 }

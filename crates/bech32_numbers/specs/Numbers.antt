@@ -50,25 +50,25 @@ use Rattle.bech32_near.specs.declared.edits.error.EditsError.TheVariants.{
   Refused as NotEdited,
   Memory as EditsMemory,
 }
-use Rattle.bech32.specs.declared.error.DecodeError.{DecodeError}
-use Rattle.bech32.specs.declared.error.DecodeError.TheVariants.{Parse, Checksum}
-use Rattle.bech32.specs.declared.error.DecodeError.TheVariants.{Memory as DecodeMemory}
-use Rattle.bech32.specs.declared.error.TextError.{TextError}
-use Rattle.bech32.specs.declared.error.TextError.TheVariants.{
+use Rattle.bech32_refusals.specs.declared.texts.DecodeError.{DecodeError}
+use Rattle.bech32_refusals.specs.declared.texts.DecodeError.TheVariants.{Parse, Checksum}
+use Rattle.bech32_refusals.specs.declared.texts.DecodeError.TheVariants.{Memory as DecodeMemory}
+use Rattle.bech32_refusals.specs.declared.texts.TextError.{TextError}
+use Rattle.bech32_refusals.specs.declared.texts.TextError.TheVariants.{
   Parse as NoTextOfIt,
   Checksum as NotByIt,
   Padding as LongPadding,
   Memory as TextMemory,
 }
-use Rattle.bech32.specs.declared.error.ElementsError.{ElementsError}
-use Rattle.bech32.specs.declared.error.ElementsError.TheVariants.{
+use Rattle.bech32_refusals.specs.declared.texts.ElementsError.{ElementsError}
+use Rattle.bech32_refusals.specs.declared.texts.ElementsError.TheVariants.{
   TooLong as LongElements,
   Element,
   Memory as ElementsMemory,
 }
-use Rattle.bech32.specs.declared.error.EncodeError.{EncodeError}
-use Rattle.bech32.specs.declared.error.EncodeError.TheVariants.{TooLong, Fmt}
-use Rattle.bech32.specs.declared.error.EncodeError.TheVariants.{Memory as EncodeMemory}
+use Rattle.bech32_refusals.specs.declared.texts.EncodeError.{EncodeError}
+use Rattle.bech32_refusals.specs.declared.texts.EncodeError.TheVariants.{TooLong, Fmt}
+use Rattle.bech32_refusals.specs.declared.texts.EncodeError.TheVariants.{Memory as EncodeMemory}
 use Rattle.bech32_segwit.specs.declared.error.DecodeError.{DecodeError as SegwitDecodeError}
 use Rattle.bech32_segwit.specs.declared.error.EncodeError.{EncodeError as SegwitEncodeError}
 use Rattle.bech32_segwit.specs.declared.error.EncodeError.TheVariants.{

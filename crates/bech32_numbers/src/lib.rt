@@ -3,7 +3,7 @@
 //!
 //! Numbers from 1 to 9 and from 92 are left to the programs.
 //!
-//! Below it: `bech32`.
+//! Below it: `bech32_near`, `bech32_segwit`.
 //! Standard: none.
 #![tactic(auto)]
 
@@ -24,15 +24,15 @@ mod sentences;
 
 pub use self::message::put_sentence;
 pub use self::sentences::{bech32_sentence_of, codex32_sentence_of};
-use bech32::primitives::decode::{
-    CharError, CheckedHrpstringError, ChecksumError, PaddingError, SegwitHrpstringError,
-    UncheckedHrpstringError,
+use bech32_correction::CorrectError;
+use bech32_hrp as hrp;
+use bech32_near::edits::EditsError;
+use bech32_refusals::segwit::WitnessLengthError;
+use bech32_refusals::{
+    CharError, CheckedHrpstringError, ChecksumError, DecodeError, ElementsError, EncodeError,
+    PaddingError, SegwitHrpstringError, TextError, UncheckedHrpstringError,
 };
-use bech32::primitives::hrp;
-use bech32::primitives::segwit::WitnessLengthError;
-use bech32::{
-    CorrectError, DecodeError, EditsError, ElementsError, EncodeError, TextError, segwit,
-};
+use bech32_segwit as segwit;
 
 /// The number of a text that a checksum refuses for its residue, and that no correction mends.
 pub const NO_CORRECTION: u8 = 34;

@@ -1,3 +1,4 @@
 pub mod ResidueRows
 pub mod ResidueText
 pub mod SegwitRules
+pub mod Texts

@@ -1,4 +1,4 @@
-//! Why texts are refused, and the rules of segwit addresses.
+//! Why texts are refused or not written, and the rules of segwit addresses.
 //!
 //! Below it: `bech32_checksum`.
 //! Standard: BIP-173, Bech32 and Segwit address format.
@@ -7,9 +7,11 @@
 mod error;
 mod residue;
 pub mod segwit;
+mod texts;
 
 pub use error::{
     CharError, CheckedHrpstringError, ChecksumError, CodeLengthError, InvalidResidueError,
     PaddingError, SegwitCodeLengthError, SegwitHrpstringError, UncheckedHrpstringError,
 };
 pub use residue::MAX_DEGREE;
+pub use texts::{DecodeError, ElementsError, EncodeError, TextError};
