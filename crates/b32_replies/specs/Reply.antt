@@ -42,7 +42,9 @@ use Rattle.b32_replies.specs.declared.refusal.Refusal.{Refusal}
 use Rattle.b32_replies.specs.declared.refusal.Refusal.TheVariants.{Encode as EncodeRefusal}
 use Rattle.b32_replies.specs.declared.refusal.Refusal.TheVariants.{Elements as ElementsRefusal}
 use Rattle.bech32_refusals.specs.declared.texts.EncodeError.TheVariants.{Memory as no_encode_memory}
-use Rattle.bech32_refusals.specs.declared.texts.ElementsError.TheVariants.{Memory as no_elements_memory}
+use Rattle.bech32_refusals.specs.declared.texts.ElementsError.TheVariants.{
+  Memory as no_elements_memory,
+}
 use Rattle.bech32_refusals.specs.declared.texts.TextError.{TextError}
 use Rattle.b32_replies.specs.Locations.{AreLocations, IsNoListOfLocations}
 use Rattle.b32_replies.specs.Request.{Request, Encode, Decode, SegwitEncode, SegwitDecode}

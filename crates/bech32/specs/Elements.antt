@@ -20,7 +20,12 @@ use Rattle.bech32_refusals.specs.declared.texts.ElementsError.TheVariants.{
   Memory as WriteMemory,
 }
 use Rattle.bech32_refusals.specs.declared.texts.TextError.{TextError}
-use Rattle.bech32_refusals.specs.declared.texts.TextError.TheVariants.{Parse, Checksum, Padding, Memory}
+use Rattle.bech32_refusals.specs.declared.texts.TextError.TheVariants.{
+  Parse,
+  Checksum,
+  Padding,
+  Memory,
+}
 
 -- the elements of numbers
 abbrev pub elements_in : List ℕ → List Fe32

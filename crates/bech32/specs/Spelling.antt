@@ -18,7 +18,12 @@ use Rattle.bech32_decode.specs.SegwitPadding.{IsPadded, IsPaddingRefusal}
 use Rattle.bech32_decode.specs.Text.{HasHrp, text_refusal}
 use Rattle.bech32_refusals.specs.declared.error.PaddingError.{PaddingError}
 use Rattle.bech32_refusals.specs.declared.texts.TextError.{TextError}
-use Rattle.bech32_refusals.specs.declared.texts.TextError.TheVariants.{Parse, Checksum, Padding, Memory}
+use Rattle.bech32_refusals.specs.declared.texts.TextError.TheVariants.{
+  Parse,
+  Checksum,
+  Padding,
+  Memory,
+}
 
 -- the text of a human-readable part, elements and their checksum, in lower case throughout or in
 -- upper case throughout, where it is not longer than the code

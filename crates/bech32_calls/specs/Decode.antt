@@ -4,7 +4,9 @@ use Rattle.std.specs.Str.{IsUtf8}
 use Rattle.bech32_decode.specs.Acceptance.{IsDecoded}
 use Rattle.bech32.specs.Refusals.{IsDecodeRefusal}
 use Rattle.bech32_refusals.specs.declared.texts.DecodeError.TheVariants.{Parse}
-use Rattle.bech32_refusals.specs.declared.texts.DecodeError.TheVariants.{Checksum as NoChecksumAccepts}
+use Rattle.bech32_refusals.specs.declared.texts.DecodeError.TheVariants.{
+  Checksum as NoChecksumAccepts,
+}
 use Rattle.bech32_encode.specs.Buffers.{IsPut}
 use Rattle.bech32_calls.specs.declared.refusal.Refusal.{Refusal}
 use Rattle.bech32_calls.specs.declared.refusal.Refusal.TheVariants.{NotUtf8, NoRoom, Text, Checksum}

@@ -18,8 +18,13 @@ use Rattle.liquid.specs.Writing.{confidential_length}
 use Rattle.liquid.specs.declared.address.Address.{Address}
 use Rattle.liquid.specs.declared.error.EncodeError.TheVariants.{Memory}
 use Rattle.bech32_more_calls.specs.declared.confidential.refusal.Refusal.{Refusal}
-use Rattle.bech32_more_calls.specs.declared.confidential.refusal.Refusal.TheVariants.{Other, NoAddress}
-use Rattle.bech32_more_calls.specs.declared.confidential.refusal.Refusal.TheVariants.{Address as NotAddress}
+use Rattle.bech32_more_calls.specs.declared.confidential.refusal.Refusal.TheVariants.{
+  Other,
+  NoAddress,
+}
+use Rattle.bech32_more_calls.specs.declared.confidential.refusal.Refusal.TheVariants.{
+  Address as NotAddress,
+}
 
 -- ---- encoding
 

@@ -4,7 +4,11 @@ use Rattle.bech32_calls.specs.Numbers as other
 use Rattle.bech32_numbers.specs.Refused.{IsNumberBy}
 use Rattle.liquid.specs.Numbers.{number_of_confidential_error, number_of_confidential_encode_error}
 use Rattle.bech32_more_calls.specs.declared.confidential.refusal.Refusal.{Refusal}
-use Rattle.bech32_more_calls.specs.declared.confidential.refusal.Refusal.TheVariants.{Other, NoAddress, Address}
+use Rattle.bech32_more_calls.specs.declared.confidential.refusal.Refusal.TheVariants.{
+  Other,
+  NoAddress,
+  Address,
+}
 
 -- of any refusal
 abbrev pub number_of_liquid : Refusal → ℕ

@@ -6,7 +6,10 @@ use Rattle.bech32_descriptor.specs.declared.error.CheckError.{CheckError}
 use Rattle.bech32_descriptor.specs.declared.error.CheckError.TheVariants.{InvalidCharacter}
 use Rattle.bech32_descriptor.specs.declared.error.CheckError.TheVariants.{NoChecksum, WrongChecksum}
 use Rattle.bech32_more_calls.specs.declared.descriptor.checks.PutError.{PutError}
-use Rattle.bech32_more_calls.specs.declared.descriptor.checks.PutError.TheVariants.{Character, NoRoom}
+use Rattle.bech32_more_calls.specs.declared.descriptor.checks.PutError.TheVariants.{
+  Character,
+  NoRoom,
+}
 
 -- the checksum of a descriptor is put at the front of a buffer
 pub record PutsChecksum (text old new : List ℕ) : Type 0 where

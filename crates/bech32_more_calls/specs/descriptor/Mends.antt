@@ -10,7 +10,10 @@ use Rattle.bech32_descriptor.specs.declared.edits.Change.TheVariants.{Changed, L
 use Rattle.bech32_descriptor.specs.declared.edits.Change.TheVariants.{Swapped}
 use Rattle.bech32_descriptor.specs.declared.edits.Edit.{Edit}
 use Rattle.bech32_more_calls.specs.declared.descriptor.mends.MendRefusal.{MendRefusal}
-use Rattle.bech32_more_calls.specs.declared.descriptor.mends.MendRefusal.TheVariants.{BadNumber, Memory}
+use Rattle.bech32_more_calls.specs.declared.descriptor.mends.MendRefusal.TheVariants.{
+  BadNumber,
+  Memory,
+}
 use Rattle.bech32_more_calls.specs.declared.descriptor.mends.MendRefusal.TheVariants.{TooLong}
 
 -- the number of what is done to a text

@@ -8,7 +8,10 @@ use Rattle.bech32_descriptor.specs.Mends.{MayBeMended}
 use Rattle.bech32_descriptor.specs.Pairs.{AreTwoMends, max_length_for_two}
 use Rattle.bech32_descriptor.specs.declared.edits.TwoEdits.{TwoEdits}
 use Rattle.bech32_more_calls.specs.declared.descriptor.mends.MendRefusal.{MendRefusal}
-use Rattle.bech32_more_calls.specs.declared.descriptor.mends.MendRefusal.TheVariants.{BadNumber, Memory}
+use Rattle.bech32_more_calls.specs.declared.descriptor.mends.MendRefusal.TheVariants.{
+  BadNumber,
+  Memory,
+}
 use Rattle.bech32_more_calls.specs.declared.descriptor.mends.MendRefusal.TheVariants.{TooLong}
 
 abbrev pub places_of_two : TwoEdits → List ℕ
