@@ -38,7 +38,7 @@ macro_rules! words {
     };
 }
 
-// The elements of all bytes stand here alone.
+// The words of all bytes at a place, from the one list of their elements.
 macro_rules! bytes_at {
     ($place:literal) => {
         words!(
