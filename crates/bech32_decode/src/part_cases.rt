@@ -1,4 +1,4 @@
-//! The cases of the bytes of human-readable parts. Written by tables.py.
+//! The cases of the bytes of human-readable parts.
 
 // What a byte is: one that may not stand before the first `1`, a small letter, or a capital one.
 const N: u32 = 1 << 24;
