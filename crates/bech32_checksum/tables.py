@@ -138,8 +138,8 @@ def logarithms_of_elements():
     for exponent, power in enumerate(base):
         logarithms[power] = exponent
     return (
-        "//! The field of 1,024 elements, in which the generator of BIP-173 has its roots: written by tables.py.\n"
-        "//! An element a + b z is the number a + 32 b.\n"
+        "//! The field of 1,024 elements, in which the generator of BIP-173 has its roots: written by\n"
+        "//! tables.py. An element a + b z is the number a + 32 b.\n"
         "\n// The power i of 1 + 6 z at place i.\n"
         + table("POWERS", "u16", base)
         + "\n// Which power of 1 + 6 z each element is; 0 for zero, which is none.\n"

@@ -1,7 +1,7 @@
 //! Tables that are linear.
 
-/// A linear table, of its entries at 1, 2, 4 and so on: each entry is the sum without carry of those
-/// that its place is made of. Several lists, each ended by `;`, give one table after another.
+/// A linear table, of its entries at 1, 2, 4 and so on: each entry is the sum without carry of
+/// those that its place is made of. Several lists, each ended by `;`, give one table after another.
 #[macro_export]
 macro_rules! sums {
     (@ $([$($sum:expr),*])*) => { [$($($sum),*),*] };

@@ -1,5 +1,5 @@
-//! The field of 1,024 elements, in which the generator of BIP-173 has its roots: written by tables.py.
-//! An element a + b z is the number a + 32 b.
+//! The field of 1,024 elements, in which the generator of BIP-173 has its roots: written by
+//! tables.py. An element a + b z is the number a + 32 b.
 
 // The power i of 1 + 6 z at place i.
 pub(super) const POWERS: [u16; 1023] = [
