@@ -1,13 +1,11 @@
 #!/usr/bin/env python3
-"""Writes the tables of src/checksums/, which belong to the generator of BIP-173, as `rt fmt` lays them
-out. With --check it writes nothing, names each file that differs, and ends with status 1 if one does.
+"""Writes locations.rt, powers.rt and logarithms.rt of src/checksums/, whose tables belong to the generator
+of BIP-173 and are no sums of a few words, as `rt fmt` lays them out. With --check it writes nothing, names
+each file that differs, and ends with status 1 if one does.
 
-twos.rt, locations.rt, powers.rt and syndromes.rt are written whole; in eights.rt and products.rt, the
-tables alone.
 The proofs do not trust this script: they compute each entry again.
 """
 import pathlib
-import re
 import sys
 
 FOLDER = pathlib.Path(__file__).parent / "src" / "checksums"
@@ -40,11 +38,9 @@ def generator_times(element):
     return total
 
 
-def times_x(row, times=1):
-    """A packed remainder times x, so many times."""
-    for _ in range(times):
-        row = (row & 0x1FFFFFF) << 5 ^ generator_times(row >> 25)
-    return row
+def times_x(row):
+    """A packed remainder times x."""
+    return (row & 0x1FFFFFF) << 5 ^ generator_times(row >> 25)
 
 
 def digits(row):
@@ -98,24 +94,9 @@ def filled(items):
     return "\n".join(lines + [line])
 
 
-def table(name, kind, items, form=str, reach="pub(super) "):
-    head = f"{reach}const {name}: [{kind}; {len(items)}] = [\n"
+def table(name, kind, items, form=str):
+    head = f"pub(super) const {name}: [{kind}; {len(items)}] = [\n"
     return head + filled(form(item) for item in items) + "\n];\n"
-
-
-def words(name, items, reach="pub(super) "):
-    return table(name, "u32", items, "0x{:08x}".format, reach)
-
-
-def twos():
-    text = "//! The remainders of two elements at x^6, x^8, x^10 and x^12, packed, by the generator of BIP-173.\n"
-    for power in (6, 8, 10, 12):
-        text += f"\n// The remainders of x^{power} times each two elements, packed.\n"
-        text += words(f"TWO_AT_X{power}", [times_x(two, power) for two in range(1024)], "")
-    return text + (
-        "\n// These at x^6, x^8, x^10 and x^12, as one table: a loop that reads all has one address.\n"
-        "pub(super) const TWOS: [[u32; 1024]; 4] = [TWO_AT_X6, TWO_AT_X8, TWO_AT_X10, TWO_AT_X12];\n"
-    )
 
 
 def locations():
@@ -132,19 +113,14 @@ def locations():
         + table("KEYS", "u32", [keys[location] for location in slots], hex)
         + "\n// The location in a slot, times 32, and the inverse of that coefficient.\n"
         + table("ANSWERS", "u16", [location * 32 + scales[location] for location in slots])
-        + "\n// The product of each two elements, the first one times 32 and the second added.\n"
-        + table("PRODUCTS_OF_TWO", "u8", [product(n // 32, n % 32) for n in range(1024)])
-        + "\n// The inverse of each element; of zero zero.\n"
-        + table("INVERSES", "u8", INVERSES)
     )
 
 
 def powers_of_x():
-    rows = powers()
     return (
         "//! The remainders of the powers of x by the generator of BIP-173: written by tables.py.\n"
         "\n// The remainder of x to the power i at place i, packed.\n"
-        + words("POWERS_OF_X", rows)
+        + table("POWERS_OF_X", "u32", powers(), "0x{:08x}".format)
     )
 
 
@@ -154,51 +130,28 @@ def product_of_pairs(a, b):
     return (low ^ high) + 32 * (product(a % 32, b // 32) ^ product(a // 32, b % 32) ^ high)
 
 
-def syndromes():
+def logarithms_of_elements():
     base = [1]
     while len(base) < 1023:
         base.append(product_of_pairs(BASE, base[-1]))
     logarithms = [0] * 1024
     for exponent, power in enumerate(base):
         logarithms[power] = exponent
-    values = [
-        sum(product_of_pairs(element, base[root * place]) << 10 * (root - 24) for root in (24, 25, 26))
-        for place in range(6)
-        for element in range(32)
-    ]
     return (
-        "//! The field of 1,024 elements, in which the generator of BIP-173 has its roots, and the values\n"
-        "//! of a residue there: written by tables.py. An element a + b z is the number a + 32 b.\n"
+        "//! The field of 1,024 elements, in which the generator of BIP-173 has its roots: written by\n"
+        "//! tables.py. An element a + b z is the number a + 32 b.\n"
         "\n// The power i of 1 + 6 z at place i.\n"
         + table("POWERS", "u16", base)
         + "\n// Which power of 1 + 6 z each element is; 0 for zero, which is none.\n"
         + table("LOGARITHMS", "u16", logarithms)
-        + "\n// The values at the powers 24, 25 and 26 of 1 + 6 z, ten bits each, of each element at each place\n"
-        "// of a residue: 32 elements for one place, one place behind the other.\n"
-        + words("SYNDROMES", values)
     )
 
 
-def with_tables(name, tables):
-    """A file with its tables of words written anew."""
-    text = (FOLDER / name).read_text(encoding="utf8")
-    for constant, items in tables.items():
-        pattern = rf"((?:pub\(super\) )?)const {constant}: \[u32; \d+\] = \[\n[^\]]*\];\n"
-        text, count = re.subn(pattern, lambda found: words(constant, items, found[1]), text)
-        if count != 1:
-            sys.exit(f"{name}: {constant} stands {count} times")
-    return text
-
-
 def main():
-    eights = {f"TIMES_X{n}": [times_x(e, n) for e in range(32)] for n in range(7, 14)}
     texts = {
-        "twos.rt": twos(),
         "locations.rt": locations(),
         "powers.rt": powers_of_x(),
-        "syndromes.rt": syndromes(),
-        "eights.rt": with_tables("eights.rt", eights),
-        "products.rt": with_tables("products.rt", {"PRODUCTS": [generator_times(e) for e in range(32)]}),
+        "logarithms.rt": logarithms_of_elements(),
     }
     check = sys.argv[1:] == ["--check"]
     differ = False

@@ -28,7 +28,7 @@ use Rattle.bech32_checksum.specs.Code.{bech32}
 use Rattle.bech32_checksum.specs.OneError.{IsLeftBy, packed}
 use Rattle.bech32_checksum.specs.Packed.{digits}
 use Rattle.bech32_checksum.specs.Syndromes.{error_sum, pair_at, sum_beside, syndrome}
-use Rattle.bech32_checksum.specs.declared.checksums.syndromes.TheConstants.{LOGARITHMS, POWERS}
+use Rattle.bech32_checksum.specs.declared.checksums.logarithms.TheConstants.{LOGARITHMS, POWERS}
 use Rattle.bech32_checksum.specs.laws.RootLaws.{base, bech32_roots}
 use Rattle.bech32_checksum.proofs.Erased.{back, digits-multiple, digits-packed_six, digits-xor, two_leave}
 use Rattle.bech32_checksum.proofs.NoValues.{both_leave, six}

@@ -22,7 +22,8 @@ use Rattle.bech32_checksum.specs.Packed.{digits}
 use Rattle.bech32_checksum.proofs.EightSteps.{residue_step}
 use Rattle.bech32_checksum.proofs.Residue.{one_is_residue}
 use Rattle.bech32_checksum.proofs.TimesX.{multiple, times_x}
-use Rattle.bech32_checksum.specs.declared.checksums.locations.TheConstants.{ANSWERS, INVERSES, KEYS, MOVES, PRODUCTS_OF_TWO}
+use Rattle.bech32_checksum.specs.declared.checksums.locations.TheConstants.{ANSWERS, KEYS, MOVES}
+use Rattle.bech32_checksum.specs.declared.checksums.ones.TheConstants.{INVERSES, PRODUCTS_OF_TWO}
 use Rattle.bech32_checksum.specs.declared.checksums.powers.TheConstants.{POWERS_OF_X}
 
 -- ---- the remainders of the powers of x

@@ -16,7 +16,8 @@ use Rattle.bech32_gf_ext.specs.declared.Fe32Ext.{Fe32Ext}
 use Rattle.bech32_gf_ext.specs.laws.Fe1024Laws.{is_field, parts, same_parts}
 use Rattle.bech32_checksum.specs.Packed.{digit_of}
 use Rattle.bech32_checksum.specs.Syndromes.{pair_at, syndrome}
-use Rattle.bech32_checksum.specs.declared.checksums.syndromes.TheConstants.{LOGARITHMS, POWERS, SYNDROMES}
+use Rattle.bech32_checksum.specs.declared.checksums.logarithms.TheConstants.{LOGARITHMS, POWERS}
+use Rattle.bech32_checksum.specs.declared.checksums.syndromes.TheConstants.{SYNDROMES}
 use Rattle.bech32_checksum.specs.laws.PackedLaws.{xor_digits}
 use Rattle.bech32_checksum.specs.laws.RootLaws.{base, base-order}
 

@@ -21,6 +21,7 @@ mod checksums;
 mod hrp_fes;
 mod packed;
 mod roots;
+mod tables;
 mod word;
 
 pub use self::checksums::{Bech32, Bech32m, NoChecksum};

@@ -13,8 +13,9 @@ ghost use Rattle.bech32_checksum.specs.Syndromes.{error_sum, pair_at, sum_beside
 ghost use Rattle.bech32_checksum.specs.laws.RootLaws.{base};
 
 use super::erased::{multiple_of, packed_list, value_at_one};
+use super::logarithms::{LOGARITHMS, POWERS};
 use super::powers::POWERS_OF_X;
-use super::syndromes::{LOGARITHMS, POWERS, SYNDROMES};
+use super::syndromes::SYNDROMES;
 use bech32_gf::gf32::Fe32;
 
 // The element at a location, and the location and the element of the error beside it, if any; the

@@ -7,8 +7,27 @@ ghost use Rattle.bech32_poly.specs.Polynomial.{scale};
 ghost use Rattle.bech32_checksum.specs.Code.{bech32};
 ghost use Rattle.bech32_checksum.specs.OneError.{IsSingle, leading, packed};
 
-use super::locations::{ANSWERS, INVERSES, KEYS, MOVES, PRODUCTS_OF_TWO};
+use super::locations::{ANSWERS, KEYS, MOVES};
+use crate::sums;
 use bech32_gf::gf32::Fe32;
+
+// The product of each two elements, the first one times 32 and the second added.
+const PRODUCTS_OF_TWO: [u8; 1024] = sums!(
+    0, 0, 0, 0, 0; 1, 2, 4, 8, 16; 2, 4, 8, 16, 9; 3, 6, 12, 24, 25;
+    4, 8, 16, 9, 18; 5, 10, 20, 1, 2; 6, 12, 24, 25, 27; 7, 14, 28, 17, 11;
+    8, 16, 9, 18, 13; 9, 18, 13, 26, 29; 10, 20, 1, 2, 4; 11, 22, 5, 10, 20;
+    12, 24, 25, 27, 31; 13, 26, 29, 19, 15; 14, 28, 17, 11, 22; 15, 30, 21, 3, 6;
+    16, 9, 18, 13, 26; 17, 11, 22, 5, 10; 18, 13, 26, 29, 19; 19, 15, 30, 21, 3;
+    20, 1, 2, 4, 8; 21, 3, 6, 12, 24; 22, 5, 10, 20, 1; 23, 7, 14, 28, 17;
+    24, 25, 27, 31, 23; 25, 27, 31, 23, 7; 26, 29, 19, 15, 30; 27, 31, 23, 7, 14;
+    28, 17, 11, 22, 5; 29, 19, 15, 30, 21; 30, 21, 3, 6, 12; 31, 23, 7, 14, 28;
+);
+
+// The inverse of each element; of zero zero.
+const INVERSES: [u8; 32] = [
+    0, 1, 20, 24, 10, 8, 12, 29, 5, 11, 4, 9, 6, 28, 26, 31, 22, 18, 17, 23, 2, 25, 16, 19, 3, 21,
+    14, 30, 13, 7, 27, 15,
+];
 
 // The first element that is not zero; zero where there is none.
 #[inline]

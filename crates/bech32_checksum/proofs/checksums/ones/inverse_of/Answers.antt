@@ -1,6 +1,6 @@
 use Rattle.std.proofs.Common.{get_or, ap, ◌∙◌}
 use Rattle.bech32_gf.specs.Fe32 as fe32
-use Rattle.bech32_checksum.specs.declared.checksums.locations.TheConstants.{INVERSES}
+use Rattle.bech32_checksum.specs.declared.checksums.ones.TheConstants.{INVERSES}
 use Rattle.bech32_checksum.proofs.OneError.{inverse_read}
 use Rattle.bech32_checksum.proofs.checksums.ones.inverse_of.Goals as goal
 

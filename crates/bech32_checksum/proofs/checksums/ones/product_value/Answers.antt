@@ -1,6 +1,6 @@
 use Rattle.std.proofs.Common.{◌<◌, ◌+◌, ◌*◌, ℕ, get_or, ap, subst, sym, ◌∙◌}
 use Rattle.bech32_gf.specs.Fe32 as fe32
-use Rattle.bech32_checksum.specs.declared.checksums.locations.TheConstants.{PRODUCTS_OF_TWO}
+use Rattle.bech32_checksum.specs.declared.checksums.ones.TheConstants.{PRODUCTS_OF_TWO}
 use Rattle.bech32_checksum.proofs.OneError.{product_entry}
 use Rattle.bech32_checksum.proofs.checksums.ones.product_value.Goals as goal
 
