@@ -876,12 +876,12 @@ static void try_codex32_propose(void) {
 /* Strings of either length. Random headers and bytes, of which a string is mostly made. */
 static const uint32_t of_codex32_share[] = {2, 11, 12, 13, 14, 15, 21, 22, 23, 33, 81, 82, 83, 84, 87,
                                             92, 0};
-static const uint32_t of_codex32_encode[] = {55, 83, 84, 85, 86, 92, 0};
-static const uint32_t of_codex32_encode_payload[] = {21, 22, 55, 83, 84, 85, 86, 92, 0};
-static const uint32_t of_codex32_derive[] = {2, 4, 11, 12, 13, 14, 15, 21, 22, 23, 33, 61, 62, 63, 64,
+static const uint32_t of_codex32_encode[] = {56, 83, 84, 85, 86, 92, 0};
+static const uint32_t of_codex32_encode_payload[] = {21, 22, 56, 83, 84, 85, 86, 92, 0};
+static const uint32_t of_codex32_derive[] = {2, 4, 11, 12, 13, 14, 15, 21, 22, 23, 33, 74, 75, 76, 77,
                                              81, 82, 83, 84, 86, 92, 0};
-static const uint32_t of_codex32_split[] = {55, 65, 66, 68, 83, 84, 85, 92, 0};
-static const uint32_t of_codex32_recover[] = {2, 4, 11, 12, 13, 14, 15, 21, 22, 23, 33, 61, 62, 63, 64,
+static const uint32_t of_codex32_split[] = {56, 66, 68, 78, 83, 84, 85, 92, 0};
+static const uint32_t of_codex32_recover[] = {2, 4, 11, 12, 13, 14, 15, 21, 22, 23, 33, 74, 75, 76, 77,
                                               81, 82, 83, 84, 87, 92, 0};
 static const uint32_t of_codex32_propose_long[] = {2, 11, 12, 13, 14, 15, 21, 22, 23, 34, 81, 82, 91,
                                                    92, 0};
@@ -1547,7 +1547,7 @@ static const uint32_t of_liquid_encode[] = {2, 4, 11, 12, 13, 14, 15, 46, 47, 48
 static Function liquid_encode = {"bech32_liquid_encode", 0, {0}, of_liquid_encode};
 
 static const uint32_t of_liquid_decode[] = {2, 11, 12, 13, 14, 15, 21, 22, 23, 31, 32, 33, 42, 43, 44,
-                                            45, 46, 47, 48, 70, 71, 92, 0};
+                                            45, 46, 47, 48, 70, 79, 92, 0};
 static Function liquid_decode = {"bech32_liquid_decode", 0, {0}, of_liquid_decode};
 
 static const uint32_t of_liquid_nearest[] = {2, 4, 11, 12, 13, 14, 15, 21, 22, 23, 31, 32, 91, 92, 0};

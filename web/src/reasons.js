@@ -11,9 +11,9 @@ export const CODES = {
   21: 'INVALID_CHARACTER', 22: 'MIXED_CASE', 23: 'NO_SEPARATOR', 31: 'TEXT_TOO_LONG', 32: 'NO_CHECKSUM',
   33: 'WRONG_CHECKSUM', 41: 'ADDRESS_TOO_LONG', 42: 'NO_DATA', 43: 'BAD_VERSION', 44: 'PADDING_TOO_LONG',
   45: 'PADDING_NOT_ZERO', 46: 'PROGRAM_TOO_SHORT', 47: 'PROGRAM_TOO_LONG', 48: 'PROGRAM_NOT_V0', 49: 'OTHER_HRP',
-  51: 'ENCODED_TOO_LONG', 52: 'ENCODED_BAD_VERSION', 53: 'ENCODED_ADDRESS_TOO_LONG', 55: 'BAD_SIZE',
-  61: 'TOO_FEW_SHARES', 62: 'OTHER_SET', 63: 'INDEX_TWICE', 64: 'CONTRADICTION', 65: 'BAD_COUNT', 66: 'BAD_RANDOM',
-  67: 'BAD_ELEMENT', 68: 'EQUAL_RANDOM', 70: 'UNSUPPORTED_VERSION', 71: 'NO_BLINDING_KEY', 80: 'NOT_IN_DESCRIPTOR',
+  51: 'ENCODED_TOO_LONG', 52: 'ENCODED_BAD_VERSION', 53: 'ENCODED_ADDRESS_TOO_LONG', 56: 'BAD_SIZE', 66: 'BAD_RANDOM',
+  67: 'BAD_ELEMENT', 68: 'EQUAL_RANDOM', 70: 'UNSUPPORTED_VERSION', 74: 'TOO_FEW_SHARES', 75: 'OTHER_SET',
+  76: 'INDEX_TWICE', 77: 'CONTRADICTION', 78: 'BAD_COUNT', 79: 'NO_BLINDING_KEY', 80: 'NOT_IN_DESCRIPTOR',
   81: 'NOT_MS', 82: 'BAD_LENGTH', 83: 'BAD_THRESHOLD', 84: 'BAD_SHARE_INDEX', 85: 'BAD_IDENTIFIER',
   86: 'NO_SHARE_INDEX', 87: 'BITS_LEFT_OVER', 88: 'NO_DESCRIPTOR_CHECKSUM', 89: 'DESCRIPTOR_TOO_LONG',
 };
@@ -44,17 +44,17 @@ export const SENTENCES = {
   51: 'The text would have more than 1023 characters (7089 by a long checksum).',
   52: 'The witness version is above 16.',
   53: 'The address would have more than 90 characters.',
-  55: 'There are neither 16 to 44 bytes nor 63 or 64.',
-  61: 'There are fewer shares than the threshold.',
-  62: 'A share has another threshold, identifier or length than the first.',
-  63: 'Two shares have one index.',
-  64: 'The shares contradict each other.',
-  65: 'There are fewer shares than the threshold, or more than 31.',
+  56: 'There are neither 16 to 44 bytes nor 63 or 64.',
   66: 'There are not as many random bytes as characters are drawn.',
   67: 'An element is above 31.',
   68: 'The random bytes are all equal.',
   70: 'A confidential address of another witness version than 0 is not supported.',
-  71: 'A confidential address has less than 33 bytes behind its version.',
+  74: 'There are fewer shares than the threshold.',
+  75: 'A share has another threshold, identifier or length than the first.',
+  76: 'Two shares have one index.',
+  77: 'The shares contradict each other.',
+  78: 'There are fewer shares than the threshold, or more than 31.',
+  79: 'A confidential address has less than 33 bytes behind its version.',
   80: 'A character may not stand in a descriptor, or not in its checksum.',
   81: 'The human-readable part is not “ms”.',
   82: 'A codex32 string has 48 to 93 characters, a long one 125 to 127.',
@@ -402,10 +402,10 @@ const ofOne = (calls, number, texts) => {
 const ofSet = (calls, number, texts, shareIndex) => {
   const parts = texts.map(partsOf);
   switch (number) {
-    case 61: return tooFew(parts, texts);
-    case 62: return otherSet(parts);
-    case 63: return indexTwice(parts);
-    case 64: return nowhere('The strings contradict each other: at least one of them is wrong, or is of another secret.');
+    case 74: return tooFew(parts, texts);
+    case 75: return otherSet(parts);
+    case 76: return indexTwice(parts);
+    case 77: return nowhere('The strings contradict each other: at least one of them is wrong, or is of another secret.');
     case 86: return noShareIndex(shareIndex);
     default: return ofOne(calls, number, texts) ?? (number === 84 ? noneBeside(shareIndex) : null);
   }
@@ -474,7 +474,7 @@ const ofIdentifier = (identifier) => {
 
 const ofStringEncoding = (number, threshold, identifier, shareIndex, { length }) => {
   switch (number) {
-    case 55: return nowhere(`Of ${counted(length, 'byte', 'bytes')} there is no codex32 string; it has from 16 to 44, or 63 or 64.`);
+    case 56: return nowhere(`Of ${counted(length, 'byte', 'bytes')} there is no codex32 string; it has from 16 to 44, or 63 or 64.`);
     case 83: return nowhere(`The threshold is ${threshold}; it is 0, or from 2 to 9.`);
     case 84: return nowhere(`The share index is ${shown(shareIndex)}; with the threshold 0 it is “s”.`);
     case 85: return ofIdentifier(identifier);
@@ -507,7 +507,7 @@ const ofPayload = (calls, number, payload) => {
       return { place, sentence: `${at(payload, place)} may not stand in a payload: letters and digits may, but not 1, b, i and o.` };
     }
     case 22: return cases(payload, placeOfFault());
-    case 55: {
+    case 56: {
       const length = typeof payload === 'string' ? Array.from(payload).length : payload.length;
       const has = counted(length, 'character', 'characters');
       return nowhere(`The payload has ${has}; it has as many as 16 to 44 bytes have, from 26 to 71, or as 63 or 64 have, 101 or 103.`);
@@ -520,7 +520,7 @@ const MOST_SPLIT = 31;
 
 const ofSplitting = (number, threshold, identifier, { secret, count, random }) => {
   switch (number) {
-    case 65: {
+    case 78: {
       const has = count === 1 ? 'There is one share' : `There are ${grouped(count)} shares`;
       return nowhere(`${has}; with the threshold ${threshold} there are from ${threshold} to ${MOST_SPLIT}.`);
     }

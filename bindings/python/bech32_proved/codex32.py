@@ -77,8 +77,8 @@ _OF_A_PAYLOAD = {
 _NO_NEAREST = 34
 
 # A share is of another set than the first, or an index stands twice.
-_OTHER_SET = 62
-_INDEX_TWICE = 63
+_OTHER_SET = 75
+_INDEX_TWICE = 76
 
 # There are not as many random bytes as are drawn.
 _BAD_RANDOM = 66

@@ -251,42 +251,7 @@ class BadSize(Refused):
     """There are neither 16 to 44 bytes nor 63 or 64."""
 
     sentence = "there are neither 16 to 44 bytes nor 63 or 64"
-    number = 55
-
-
-class TooFewShares(Refused):
-    """There are fewer shares than the threshold."""
-
-    sentence = "there are fewer shares than the threshold"
-    number = 61
-
-
-class OtherSet(Refused):
-    """A share has another threshold, identifier or length than the first."""
-
-    sentence = "a share has another threshold, identifier or length than the first"
-    number = 62
-
-
-class IndexTwice(Refused):
-    """Two shares have one index."""
-
-    sentence = "two shares have one index"
-    number = 63
-
-
-class Contradiction(Refused):
-    """The shares contradict each other."""
-
-    sentence = "the shares contradict each other"
-    number = 64
-
-
-class BadCount(Refused):
-    """There are fewer shares than the threshold, or more than 31."""
-
-    sentence = "there are fewer shares than the threshold, or more than 31"
-    number = 65
+    number = 56
 
 
 class BadRandom(Refused):
@@ -317,11 +282,46 @@ class UnsupportedVersion(Refused):
     number = 70
 
 
+class TooFewShares(Refused):
+    """There are fewer shares than the threshold."""
+
+    sentence = "there are fewer shares than the threshold"
+    number = 74
+
+
+class OtherSet(Refused):
+    """A share has another threshold, identifier or length than the first."""
+
+    sentence = "a share has another threshold, identifier or length than the first"
+    number = 75
+
+
+class IndexTwice(Refused):
+    """Two shares have one index."""
+
+    sentence = "two shares have one index"
+    number = 76
+
+
+class Contradiction(Refused):
+    """The shares contradict each other."""
+
+    sentence = "the shares contradict each other"
+    number = 77
+
+
+class BadCount(Refused):
+    """There are fewer shares than the threshold, or more than 31."""
+
+    sentence = "there are fewer shares than the threshold, or more than 31"
+    number = 78
+
+
 class NoBlindingKey(Refused):
     """A confidential address has less than 33 bytes behind its version."""
 
     sentence = "a confidential address has less than 33 bytes behind its version"
-    number = 71
+    number = 79
 
 
 class NotInDescriptor(Refused):
@@ -426,17 +426,17 @@ BY_NUMBER: Dict[int, Type[Refused]] = {
     51: EncodedTooLong,
     52: BadVersion,
     53: EncodedAddressTooLong,
-    55: BadSize,
-    61: TooFewShares,
-    62: OtherSet,
-    63: IndexTwice,
-    64: Contradiction,
-    65: BadCount,
+    56: BadSize,
     66: BadRandom,
     67: BadElement,
     68: EqualRandom,
     70: UnsupportedVersion,
-    71: NoBlindingKey,
+    74: TooFewShares,
+    75: OtherSet,
+    76: IndexTwice,
+    77: Contradiction,
+    78: BadCount,
+    79: NoBlindingKey,
     80: NotInDescriptor,
     81: NotMs,
     82: BadLength,

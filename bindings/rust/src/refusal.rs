@@ -99,7 +99,7 @@ refusals! {
         EncodedAddressTooLong = 53, "the address would have more than 90 characters";
         BadElement = 67, "an element is above 31";
         UnsupportedVersion = 70, "a confidential address of another witness version than 0 is not supported";
-        NoBlindingKey = 71, "a confidential address has less than 33 bytes behind its version";
+        NoBlindingKey = 79, "a confidential address has less than 33 bytes behind its version";
         NotInDescriptor = 80, "a character may not stand in a descriptor, or not in its checksum";
         NoDescriptorChecksum = 88, "the text does not end in # and eight characters";
         DescriptorTooLong = 89, "the text has more than 7500 characters (1400 for two changes), too many to be mended";

@@ -60,7 +60,7 @@ pub extern "C" fn bech32_liquid_encode(
 /// # Errors
 ///
 /// Returns the number of the first of: a text that is not UTF-8 (2); its first fault (11 to 15, 21
-/// to 23, 31 to 33, 42 to 48, 70, 71); a buffer that is too small (92).
+/// to 23, 31 to 33, 42 to 48, 70, 79); a buffer that is too small (92).
 #[unsafe(no_mangle)]
 pub extern "C" fn bech32_liquid_decode(
     text: &[u8],

@@ -16,9 +16,9 @@ use codex32_calls::derive::put_derived;
 ///
 /// Returns the number of the first of: more than 32 texts, or lengths that do not add up to that of
 /// `texts` (4); the share index (86); the first text that is no string of either length (2, 21 to
-/// 23, 11 to 15, 82, 81, 33, 83, 84); texts that are not of one set (62); an index that stands
-/// twice (63); the threshold is 0 and the index not `s` (84); fewer texts than the threshold (61);
-/// texts that contradict each other (64); a buffer that is too small (92).
+/// 23, 11 to 15, 82, 81, 33, 83, 84); texts that are not of one set (75); an index that stands
+/// twice (76); the threshold is 0 and the index not `s` (84); fewer texts than the threshold (74);
+/// texts that contradict each other (77); a buffer that is too small (92).
 #[unsafe(no_mangle)]
 pub extern "C" fn codex32_derive(
     share_index: u32,

@@ -15,7 +15,7 @@ use codex32_calls::encode::{put_encoded, put_encoded_payload};
 /// # Errors
 ///
 /// Returns the number of the first of: the threshold (83), the identifier (85), the share index
-/// (86), that it is not `s` where the threshold is 0 (84), the number of bytes (55), a buffer that
+/// (86), that it is not `s` where the threshold is 0 (84), the number of bytes (56), a buffer that
 /// is too small (92).
 #[unsafe(no_mangle)]
 pub extern "C" fn codex32_encode(
@@ -56,7 +56,7 @@ pub extern "C" fn codex32_encode(
 ///
 /// Returns the number of the first of: the threshold (83), the identifier (85), the share index
 /// (86), that it is not `s` where the threshold is 0 (84), a character of the payload that is not
-/// of the alphabet (21), letters of both cases in it (22), the number of its characters (55), a
+/// of the alphabet (21), letters of both cases in it (22), the number of its characters (56), a
 /// buffer that is too small (92).
 #[unsafe(no_mangle)]
 pub extern "C" fn codex32_encode_payload(

@@ -15,8 +15,8 @@ use codex32_calls::recover::put_recovered;
 ///
 /// Returns the number of the first of: more than 32 texts, or lengths that do not add up to that of
 /// `texts` (4); the first text that is no string of either length (2, 21 to 23, 11 to 15, 82, 81,
-/// 33, 83, 84); texts that are not of one set (62); an index that stands twice (63); fewer texts
-/// than the threshold (61); texts that contradict each other (64); more than four bits left over
+/// 33, 83, 84); texts that are not of one set (75); an index that stands twice (76); fewer texts
+/// than the threshold (74); texts that contradict each other (77); more than four bits left over
 /// behind the bytes of the payload (87); a buffer that is too small (92).
 #[unsafe(no_mangle)]
 pub extern "C" fn codex32_recover(

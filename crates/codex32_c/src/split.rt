@@ -15,8 +15,8 @@ use codex32_calls::split::put_split;
 /// # Errors
 ///
 /// Returns the number of the first of: the threshold (83), the identifier (85), that the threshold
-/// is 0 (84), the number of bytes of the secret (55), fewer shares than the threshold, or more than
-/// 31 (65), another number of random bytes (66), random bytes that are all equal (68), a buffer
+/// is 0 (84), the number of bytes of the secret (56), fewer shares than the threshold, or more than
+/// 31 (78), another number of random bytes (66), random bytes that are all equal (68), a buffer
 /// that is too small (92).
 #[unsafe(no_mangle)]
 pub extern "C" fn codex32_split(

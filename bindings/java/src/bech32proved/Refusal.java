@@ -62,17 +62,7 @@ public enum Refusal {
     /** The address would have more than 90 characters. */
     ENCODED_ADDRESS_TOO_LONG(53, false),
     /** There are neither 16 to 44 bytes nor 63 or 64. */
-    BAD_SIZE(55, true),
-    /** There are fewer shares than the threshold. */
-    TOO_FEW_SHARES(61, true),
-    /** A share has another threshold, identifier or length than the first. */
-    OTHER_SET(62, true),
-    /** Two shares have one index. */
-    INDEX_TWICE(63, true),
-    /** The shares contradict each other. */
-    CONTRADICTION(64, true),
-    /** There are fewer shares than the threshold, or more than 31. */
-    BAD_COUNT(65, true),
+    BAD_SIZE(56, true),
     /** There are not as many random bytes as characters are drawn. */
     BAD_RANDOM(66, true),
     /** An element is above 31. */
@@ -81,8 +71,18 @@ public enum Refusal {
     EQUAL_RANDOM(68, true),
     /** A confidential address of another witness version than 0 is not supported. */
     UNSUPPORTED_VERSION(70, false),
+    /** There are fewer shares than the threshold. */
+    TOO_FEW_SHARES(74, true),
+    /** A share has another threshold, identifier or length than the first. */
+    OTHER_SET(75, true),
+    /** Two shares have one index. */
+    INDEX_TWICE(76, true),
+    /** The shares contradict each other. */
+    CONTRADICTION(77, true),
+    /** There are fewer shares than the threshold, or more than 31. */
+    BAD_COUNT(78, true),
     /** A confidential address has less than 33 bytes behind its version. */
-    NO_BLINDING_KEY(71, false),
+    NO_BLINDING_KEY(79, false),
     /** A character may not stand in a descriptor, or not in its checksum. */
     NOT_IN_DESCRIPTOR(80, false),
     /** The human-readable part is not {@code ms}. */
