@@ -1,3 +1,5 @@
+/* Made by tools/make from include/bech32.h.in and docs/refusals.tsv; do not edit. */
+
 /*
  * Bech32 (BIP-173) and Bech32m (BIP-350): texts and segwit addresses, written, read and mended; Blech32, the
  * confidential addresses of Liquid; and the checksums of output descriptors (BIP-380).

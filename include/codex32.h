@@ -1,3 +1,5 @@
+/* Made by tools/make from include/codex32.h.in and docs/refusals.tsv; do not edit. */
+
 /*
  * Codex32 (BIP-93): splits a secret into shares and recovers it from them, reads, makes and derives
  * strings, and proposes the nearest string to a damaged one.

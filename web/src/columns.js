@@ -2,7 +2,7 @@
 // of it is an array of Apache Arrow again.
 import { Instance } from './instance.js';
 import { ALL_CHECKSUMS, TEXT_ROOM } from './calls.js';
-import { SENTENCES } from './reasons.js';
+import { SENTENCES } from './refusals.js';
 
 /** The row is null. */
 export const NULL_ROW = 1;

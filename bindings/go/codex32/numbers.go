@@ -1,4 +1,4 @@
-// Written by tools/refusals.
+// Made by tools/make from docs/refusals.tsv; do not edit.
 
 package codex32
 

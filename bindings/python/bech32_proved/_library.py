@@ -9,6 +9,7 @@ from pathlib import Path
 from typing import Any, Iterable, List, NoReturn, Optional, Tuple, Type, TypeVar, Union, cast
 
 from . import errors
+from ._refused import begins_character
 
 Octets = Union[bytes, bytearray, memoryview]
 Text = Union[str, bytearray]
@@ -395,7 +396,7 @@ def _place(data: Union[bytes, bytearray]) -> Optional[int]:
     number = fault(1, *given(data), ctypes.byref(place))
     if number not in errors.OF_A_CHARACTER:
         return None
-    return sum(errors.begins_character(byte) for byte in data[: place.value])
+    return sum(begins_character(byte) for byte in data[: place.value])
 
 
 def refuse(

@@ -130,9 +130,7 @@ class ShareWithBytes(NamedTuple):
 def parse(text: Text) -> Share:
     """Reads a codex32 string of 48 to 93 characters.
 
-    Raises the first of: `InvalidCharacter`, `MixedCase`, `NoSeparator`, `HrpEmpty`, `HrpTooLong`,
-    `HrpNotAscii`, `HrpInvalid`, `HrpMixedCase`; `BadLength`; `NotMs`; `WrongChecksum`; `BadThreshold`;
-    `BadShareIndex`.
+    Raises the first that applies of the refusals that `bech32_proved.errors` lists for this function.
     """
     data = copied_text(text, "text")
     threshold, share_index, length = ctypes.c_uint32(), ctypes.c_uint32(), ctypes.c_size_t()
@@ -151,9 +149,7 @@ def share(text: Text, *, into: Union[Type[bytes], Type[bytearray]] = bytes) -> S
     """Reads a string of either length, 48 to 93 characters or 125 to 127: a share, or the secret at the index
     `s`. Its bytes are `bytes`, or a `bytearray` with `into=bytearray`.
 
-    Raises the first of: `InvalidCharacter`, `MixedCase`, `NoSeparator`, `HrpEmpty`, `HrpTooLong`,
-    `HrpNotAscii`, `HrpInvalid`, `HrpMixedCase`; `BadLength`; `NotMs`; `WrongChecksum`; `BadThreshold`;
-    `BadShareIndex`; `BitsLeftOver`.
+    Raises the first that applies of the refusals that `bech32_proved.errors` lists for this function.
     """
     _tested(into, bytes)
     data, held = copied_text(text, "text"), Buffer(_MAX_BYTES)
@@ -185,7 +181,7 @@ def encode(threshold: int, identifier: str, share_index: str, data: Octets, *, i
         >>> encode(0, "test", "s", bytes([0x31] * 16))[:16]
         'ms10testsxycnzvf'
 
-    Raises the first of: `BadThreshold`, `BadIdentifier`, `NoShareIndex`, `BadShareIndex`, `BadSize`.
+    Raises the first that applies of the refusals that `bech32_proved.errors` lists for this function.
     """
     _tested(into, str)
     header = _header(threshold, identifier, share_index)
@@ -219,8 +215,7 @@ def encode_payload(
 
     The text of what is raised for a character, and its place, are those of the payload.
 
-    Raises the first of: `BadThreshold`, `BadIdentifier`, `NoShareIndex`, `BadShareIndex`;
-    `InvalidCharacter`, `MixedCase`, `BadSize`.
+    Raises the first that applies of the refusals that `bech32_proved.errors` lists for this function.
     """
     _tested(into, str)
     header = _header(threshold, identifier, share_index)
@@ -257,10 +252,7 @@ def derive(texts: Iterable[Text], share_index: str, *, into: Any = str) -> Any:
     The text of what is raised is that of the first text that is refused, is of another set than the first, or
     has an index that stands before it.
 
-    Raises the first of: `NoShareIndex`; `InvalidCharacter`, `MixedCase`, `NoSeparator`, `HrpEmpty`,
-    `HrpTooLong`, `HrpNotAscii`, `HrpInvalid`, `HrpMixedCase`; `BadLength`; `NotMs`; `WrongChecksum`;
-    `BadThreshold`; `BadShareIndex`; `OtherSet`, `IndexTwice`, `BadShareIndex`, `TooFewShares`,
-    `Contradiction`.
+    Raises the first that applies of the refusals that `bech32_proved.errors` lists for this function.
     """
     _tested(into, str)
     index, shares = _character(share_index), _texts(texts)
@@ -308,8 +300,7 @@ def split(
         >>> [text[:9] for text in shares]
         ['ms12casha', 'ms12cashc', 'ms12cashd']
 
-    Raises the first of: `BadThreshold`, `BadIdentifier`, `BadShareIndex`, `BadSize`, `BadCount`,
-    `BadRandom`, `EqualRandom`.
+    Raises the first that applies of the refusals that `bech32_proved.errors` lists for this function.
     """
     _tested(into, str)
     number, named = _threshold(threshold), _ANY if identifier is None else _named(identifier)
@@ -350,9 +341,7 @@ def recover(texts: Iterable[Text], *, into: Any = bytes) -> Any:
 
     The text of what is raised is as of `derive`.
 
-    Raises the first of: `InvalidCharacter`, `MixedCase`, `NoSeparator`, `HrpEmpty`, `HrpTooLong`,
-    `HrpNotAscii`, `HrpInvalid`, `HrpMixedCase`; `BadLength`; `NotMs`; `WrongChecksum`; `BadThreshold`;
-    `BadShareIndex`; `OtherSet`, `IndexTwice`, `TooFewShares`, `Contradiction`; `BitsLeftOver`.
+    Raises the first that applies of the refusals that `bech32_proved.errors` lists for this function.
     """
     _tested(into, bytes)
     return _made_of(_texts(texts), (_library.codex32_recover,), Buffer(_MAX_BYTES), into)
@@ -374,8 +363,7 @@ def propose(text: Text, *, into: Any = str) -> Any:
     is a `str`, or with `into=bytearray` a `bytearray`. The time of a call, and which memory it reads, depend on the
     text and its errors.
 
-    Raises the first of: `InvalidCharacter`, `MixedCase`, `NoSeparator`, `HrpEmpty`, `HrpTooLong`,
-    `HrpNotAscii`, `HrpInvalid`, `HrpMixedCase`; `BadLength`; `NotMs`.
+    Raises the first that applies of the refusals that `bech32_proved.errors` lists for this function.
     """
     return _proposed(_library.codex32_propose, text, _MAX_TEXT, into)
 
@@ -388,8 +376,7 @@ def propose_long(text: Text, *, into: Any = str) -> Any:
     """Proposes the nearest text to a damaged long string, of 125 to 127 characters, within the bounds of `propose`
     and in the case of the damaged one. Returns None if there is none.
 
-    Raises the first of: `InvalidCharacter`, `MixedCase`, `NoSeparator`, `HrpEmpty`, `HrpTooLong`,
-    `HrpNotAscii`, `HrpInvalid`, `HrpMixedCase`; `BadLength`; `NotMs`.
+    Raises the first that applies of the refusals that `bech32_proved.errors` lists for this function.
     """
     return _proposed(_library.codex32_propose_long, text, _MAX_LONG_TEXT, into)
 

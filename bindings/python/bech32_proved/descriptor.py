@@ -94,7 +94,7 @@ class Mended(NamedTuple):
 def checksum(text: Text) -> str:
     """Computes the checksum of a descriptor without one, eight characters: `text`, `#` and these are the descriptor.
 
-    Raises the first of: `NotInDescriptor`.
+    Raises the first that applies of the refusals that `bech32_proved.errors` lists for this function.
     """
     data, made, place = _copied(text), ctypes.create_string_buffer(_library.DESCRIPTOR_CHECKSUM), ctypes.c_size_t()
     length = ctypes.c_size_t()
@@ -111,7 +111,7 @@ def checksum(text: Text) -> str:
 def check(text: Text) -> Text:
     """Tests the checksum of a descriptor, and returns the descriptor without it.
 
-    Raises the first of: `NoDescriptorChecksum`, `NotInDescriptor`, `WrongChecksum`.
+    Raises the first that applies of the refusals that `bech32_proved.errors` lists for this function.
     """
     data, place = _copied(text), ctypes.c_size_t()
     try:

@@ -50,8 +50,7 @@ def encode(hrp: str, version: int, key: Octets, program: Octets) -> str:
 
     Of a key of another length, `ValueError`.
 
-    Raises the first of: `HrpEmpty`, `HrpTooLong`, `HrpNotAscii`, `HrpInvalid`, `HrpMixedCase`,
-    `BadVersion`, `UnsupportedVersion`, `ProgramTooShort`, `ProgramTooLong`, `ProgramNotV0`.
+    Raises the first that applies of the refusals that `bech32_proved.errors` lists for this function.
     """
     witness_version, blinding_key = whole(version, "version"), bytes(octets(key, "key"))
     if len(blinding_key) != _library.LIQUID_KEY_LENGTH:
@@ -71,10 +70,7 @@ def encode(hrp: str, version: int, key: Octets, program: Octets) -> str:
 def decode(text: str) -> Address:
     """Decodes a confidential address. It accepts any human-readable part: compare it with that of your network.
 
-    Raises the first of: `InvalidCharacter`, `MixedCase`, `NoSeparator`, `HrpEmpty`, `HrpTooLong`,
-    `HrpNotAscii`, `HrpInvalid`, `HrpMixedCase`; `NoData`, `BadVersion`, `UnsupportedVersion`;
-    `TextTooLong`, `NoChecksum`, `WrongChecksum`; `NoData`, `PaddingTooLong`, `PaddingNotZero`;
-    `NoBlindingKey`; `ProgramTooShort`, `ProgramTooLong`, `ProgramNotV0`.
+    Raises the first that applies of the refusals that `bech32_proved.errors` lists for this function.
     """
     data = utf8(text)
     hrp, program = Buffer(_library.MAX_HRP), Buffer(_library.MAX_LIQUID_PROGRAM)

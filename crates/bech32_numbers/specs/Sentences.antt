@@ -1,4 +1,6 @@
--- The sentences of refusals, by their numbers: written by tools/refusals from docs/refusals.tsv.
+-- The sentences of refusals, by their numbers.
+--
+-- Made by tools/make from docs/refusals.tsv; do not edit.
 use Rattle.std.specs.Prelude.{◌≡◌, ◌≤◌, ℕ, List, [], length, codes, ◌==◌, if◌then◌else◌}
 use Rattle.std.specs.Borrow.{Bor}
 
@@ -18,8 +20,6 @@ common_sentence n =
     else (if n == 91 then codes "the lent memory did not suffice"
     else (if n == 92 then codes "a buffer is too small"
     else [])))))))))))
-
--- End of the sentences.
 
 -- the sentence of a number of bech32.h, empty for a number that is none of it
 abbrev pub bech32_sentence : ℕ → List ℕ
@@ -53,8 +53,6 @@ bech32_sentence n =
     "the text has more than 7500 characters (1400 for two changes), too many to be mended"
     else common_sentence n))))))))))))))))))))))
 
--- End of the sentences.
-
 -- the sentence of a number of codex32.h, empty for a number that is none of it
 abbrev pub codex32_sentence : ℕ → List ℕ
 codex32_sentence n =
@@ -77,8 +75,6 @@ codex32_sentence n =
     else (if n == 86 then codes "the share index is not one character of the alphabet"
     else (if n == 87 then codes "more than four bits stand behind the bytes of the payload"
     else common_sentence n))))))))))))))))
-
--- End of the sentences.
 
 -- a text is what these sentences say of a number, in at most 100 characters
 pub record IsSentence (sentences : ℕ → List ℕ) (number : ℕ) (text : Bor (List ℕ)) : Type 0 where

@@ -1,8 +1,9 @@
+// Made by tools/make from bindings/java/src/bech32proved/Refusal.java.in and docs/refusals.tsv; do not edit.
+
 package bech32proved;
 
 /** Why something is refused: the numbers and sentences of bech32.h and codex32.h. */
 public enum Refusal {
-    // Written by tools/refusals.
     /** The row is null. */
     NULL_ROW(1, false),
     /** A text or a human-readable part is not UTF-8. */
@@ -107,7 +108,6 @@ public enum Refusal {
     NO_MEMORY(91, false),
     /** A buffer is too small. */
     NO_ROOM(92, false);
-    // End of what it writes.
 
     private final int number;
     private final boolean isCodex32;
