@@ -4,6 +4,7 @@
 // by looking at the text once more, is what no function tells: where the separator of a text with a short data part or of
 // no address stands, the value of a witness version, how long a text would be, and where one differs from `ms`. This is
 // no part of what is proved.
+import { C } from './declared.js';
 
 /** The codes of the refusals, which the headers have with BECH32_ or CODEX32_ before them. */
 export const CODES = {
@@ -148,8 +149,8 @@ const ofHrp = (number, hrp, place) => {
   switch (number) {
     case 11: return { place: 0, sentence: 'Nothing stands before the separator “1”: the human-readable part is missing.' };
     case 12: {
-      const sentence = `The human-readable part, before the last “1”, has ${measured(hrp)}; it has at most 83.`;
-      return { place: beyondBytes(hrp, 83), sentence };
+      const sentence = `The human-readable part, before the last “1”, has ${measured(hrp)}; it has at most ${C.BECH32_MAX_HRP}.`;
+      return { place: beyondBytes(hrp, C.BECH32_MAX_HRP), sentence };
     }
     case 13: case 14: {
       const why = number === 13 ? 'is not ASCII, and stands in' : 'may not stand in';
@@ -176,7 +177,7 @@ const tooLong = (text, most, what) => ({
 const CHECKSUM_NAMES = { 1: 'Bech32', 2: 'Bech32m', 3: 'Bech32', 4: 'Bech32m' };
 
 // The most characters of a text by the number of a checksum.
-const mostOf = (checksum) => (checksum > 2 ? 7089 : 1023);
+const mostOf = (checksum) => (checksum > 2 ? C.BECH32_MAX_LONG_TEXT : C.BECH32_MAX_TEXT);
 
 const noChecksum = (text, separator) => {
   const behind = text.length - separator - 1;
@@ -226,7 +227,7 @@ const lengthOfProgram = (number, bytes) => {
   const has = `The program has ${counted(bytes, 'byte', 'bytes')}`;
   switch (number) {
     case 46: return nowhere(`${has}; it has at least 2.`);
-    case 47: return nowhere(`${has}; it has at most 40.`);
+    case 47: return nowhere(`${has}; it has at most ${C.BECH32_MAX_SEGWIT_PROGRAM}.`);
     default: return nowhere(`${has}; in version 0 it has 20 or 32.`);
   }
 };
@@ -246,7 +247,7 @@ const ofAddress = (calls, number, text) => {
       const name = CHECKSUM_NAMES[version === 0 ? 1 : 2];
       return nowhere(`The checksum is wrong: an address of version ${version} has a ${name} checksum.`);
     }
-    case 41: return tooLong(text, 90, 'an address');
+    case 41: return tooLong(text, C.BECH32_MAX_SEGWIT_TEXT, 'an address');
     case 42: {
       const sentence = 'No witness version stands between the last “1” and the checksum.';
       return { place: place - 1, sentence };
@@ -452,7 +453,7 @@ const ofAddressEncoding = (calls, number, hrp, version, program) => {
     case 52: return nowhere(`The witness version is ${version}; versions are from 0 to 16.`);
     case 53: {
       const length = encodedLength(hrp, 1 + elementsOf(program.length));
-      return nowhere(`The address would have ${grouped(length)} characters; an address has at most 90.`);
+      return nowhere(`The address would have ${grouped(length)} characters; an address has at most ${C.BECH32_MAX_SEGWIT_TEXT}.`);
     }
     default: return ofPart(calls, number, hrp);
   }
