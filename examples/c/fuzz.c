@@ -2446,13 +2446,6 @@ static void try_descriptor_mend_two(void) {
     expect(fit == 0 || memcmp(written_1.buffer, ample, fit * text_length) == 0, "other texts");
 }
 
-/* Written by tools/functions. */
-
-/* For main. */
-#define WRITTEN_TRIES
-
-/* By hand. */
-
 static void print(const Function *function) {
     printf("%s: %llu calls; ", function->name, function->calls);
     printf("%llu answered", function->numbers[BECH32_OK]);
@@ -2475,7 +2468,6 @@ int main(int argc, char **argv) {
         try_codex32_recover, try_codex32_propose_long,
         try_nearest, try_near_edits, try_liquid_encode, try_liquid_decode, try_liquid_nearest, try_message, try_descriptor_checksum, try_descriptor_check, try_descriptor_mend,
         try_descriptor_mend_two, try_codex32_message, try_check_many, try_segwit_decode_many, try_segwit_encode_many, try_validity_of,
-        WRITTEN_TRIES
 #endif
     };
     unsigned long long count = argc > 1 ? strtoull(argv[1], NULL, 10) : 100000;

@@ -4,7 +4,7 @@
 // by looking at the text once more, is what no function tells: where the separator of a text with a short data part or of
 // no address stands, the value of a witness version, how long a text would be, and where one differs from `ms`. This is
 // no part of what is proved.
-
+import { C } from './declared.js';
 import { CODES, NUMBERS, SENTENCES } from './refusals.js';
 
 /** The characters of the elements 0 to 31. */
@@ -89,8 +89,8 @@ const ofHrp = (number, hrp, place) => {
     case NUMBERS.HRP_EMPTY:
       return { place: 0, sentence: 'Nothing stands before the separator “1”: the human-readable part is missing.' };
     case NUMBERS.HRP_TOO_LONG: {
-      const sentence = `The human-readable part, before the last “1”, has ${measured(hrp)}; it has at most 83.`;
-      return { place: beyondBytes(hrp, 83), sentence };
+      const sentence = `The human-readable part, before the last “1”, has ${measured(hrp)}; it has at most ${C.BECH32_MAX_HRP}.`;
+      return { place: beyondBytes(hrp, C.BECH32_MAX_HRP), sentence };
     }
     case NUMBERS.HRP_NOT_ASCII: case NUMBERS.HRP_INVALID: {
       const why = number === NUMBERS.HRP_NOT_ASCII ? 'is not ASCII, and stands in' : 'may not stand in';
@@ -117,7 +117,7 @@ const tooLong = (text, most, what) => ({
 const CHECKSUM_NAMES = { 1: 'Bech32', 2: 'Bech32m', 3: 'Bech32', 4: 'Bech32m' };
 
 // The most characters of a text by the number of a checksum.
-const mostOf = (checksum) => (checksum > 2 ? 7089 : 1023);
+const mostOf = (checksum) => (checksum > 2 ? C.BECH32_MAX_LONG_TEXT : C.BECH32_MAX_TEXT);
 
 const noChecksum = (text, separator) => {
   const behind = text.length - separator - 1;
@@ -169,7 +169,7 @@ const lengthOfProgram = (number, bytes) => {
   const has = `The program has ${counted(bytes, 'byte', 'bytes')}`;
   switch (number) {
     case NUMBERS.PROGRAM_TOO_SHORT: return nowhere(`${has}; it has at least 2.`);
-    case NUMBERS.PROGRAM_TOO_LONG: return nowhere(`${has}; it has at most 40.`);
+    case NUMBERS.PROGRAM_TOO_LONG: return nowhere(`${has}; it has at most ${C.BECH32_MAX_SEGWIT_PROGRAM}.`);
     default: return nowhere(`${has}; in version 0 it has 20 or 32.`);
   }
 };
@@ -189,7 +189,7 @@ const ofAddress = (calls, number, text) => {
       const name = CHECKSUM_NAMES[version === 0 ? 1 : 2];
       return nowhere(`The checksum is wrong: an address of version ${version} has a ${name} checksum.`);
     }
-    case NUMBERS.ADDRESS_TOO_LONG: return tooLong(text, 90, 'an address');
+    case NUMBERS.ADDRESS_TOO_LONG: return tooLong(text, C.BECH32_MAX_SEGWIT_TEXT, 'an address');
     case NUMBERS.NO_DATA: {
       const sentence = 'No witness version stands between the last “1” and the checksum.';
       return { place: place - 1, sentence };
@@ -403,7 +403,7 @@ const ofAddressEncoding = (calls, number, hrp, version, program) => {
     case NUMBERS.ENCODED_BAD_VERSION: return nowhere(`The witness version is ${version}; versions are from 0 to 16.`);
     case NUMBERS.ENCODED_ADDRESS_TOO_LONG: {
       const length = encodedLength(hrp, 1 + elementsOf(program.length));
-      return nowhere(`The address would have ${grouped(length)} characters; an address has at most 90.`);
+      return nowhere(`The address would have ${grouped(length)} characters; an address has at most ${C.BECH32_MAX_SEGWIT_TEXT}.`);
     }
     default: return ofPart(calls, number, hrp);
   }

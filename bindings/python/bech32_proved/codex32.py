@@ -37,7 +37,7 @@ import ctypes
 import secrets
 from typing import Any, Iterable, List, NamedTuple, NoReturn, Optional, Tuple, Type, Union, overload
 
-from . import _library
+from . import _declared, _library
 from ._library import MAX_SIZE, Buffer, Copied, Lent, Octets, Text, copied_octets, copied_text, given, in_case_of
 from ._library import listed, refuse, secretly, string, utf8, whole
 from .texts import ALPHABET
@@ -50,11 +50,11 @@ _COMMON = slice(3, 8)
 
 # The most characters of a string, and of one of either length; the most bytes of one; the most strings of a set, and
 # the most shares that a secret is split into.
-_MAX_TEXT = 93
-_MAX_LONG_TEXT = 127
-_MAX_BYTES = 64
-_MAX_SHARES = 32
-_MAX_SPLIT = 31
+_MAX_TEXT = _declared.CODEX32_MAX_TEXT
+_MAX_LONG_TEXT = _declared.CODEX32_TEXT_SIZE
+_MAX_BYTES = _declared.CODEX32_BYTES_SIZE
+_MAX_SHARES = _declared.CODEX32_MAX_SHARES
+_MAX_SPLIT = _declared.CODEX32_MAX_SPLIT
 
 _CHARACTERS = ALPHABET.encode("ascii")
 
@@ -384,7 +384,7 @@ def propose_long(text: Text, *, into: Any = str) -> Any:
 def _proposed(function: Any, text: Text, room: int, into: Any) -> Any:
     _tested(into, str)
     data = copied_text(text, "text")
-    lent, proposed = Lent(16384 + 8 * len(data.octets)), Buffer(room)
+    lent, proposed = Lent(_declared.CODEX32_MEMORY(len(data.octets))), Buffer(room)
     try:
         number = secretly(function, *data.given, ctypes.byref(lent.memory), *proposed.out)
         if number == _NO_NEAREST:
