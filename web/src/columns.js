@@ -393,7 +393,7 @@ export const columnFunctions = (module, testPart = () => {}) => {
 };
 
 // Of these a text alone is thrown otherwise, or never.
-const OF_ROWS = { 2: 'The text is not UTF-8.', [BAD_ROW]: 'The offsets of the row do not lie in the column.' };
+const OF_ROWS = { [C.BECH32_NOT_UTF8]: 'The text is not UTF-8.', [BAD_ROW]: 'The offsets of the row do not lie in the column.' };
 
 /** The sentence of the number of a row; of 0, and of what is no row's, it is empty. */
 export const message = (number) => OF_ROWS[number] ?? SENTENCES[number] ?? '';

@@ -2,8 +2,10 @@
 
 from typing import Any, ClassVar, Optional, Tuple, Union
 
+from . import _declared
+
 # What is refused first in a text without a separator, and what is said of it.
-_INVALID_CHARACTER = 21
+_INVALID_CHARACTER = _declared.BECH32_INVALID_CHARACTER
 _NO_SEPARATOR_AND_CHARACTER = "the text has no separator, '1', and a character that may not stand behind one"
 
 

@@ -62,34 +62,34 @@ _CHARACTERS = ALPHABET.encode("ascii")
 _ANY = b"qqqq"
 
 # A text is not UTF-8: a `str` is not refused so, but as `NotUnicode`.
-_NOT_UTF8 = 2
+_NOT_UTF8 = _declared.CODEX32_NOT_UTF8
 _NO_TEXT = "the text is not UTF-8"
 
 # A character of a payload is not of the alphabet, or its letters have both cases; and what is said of these.
-_INVALID_CHARACTER = 21
-_MIXED_CASE = 22
+_INVALID_CHARACTER = _declared.CODEX32_INVALID_CHARACTER
+_MIXED_CASE = _declared.CODEX32_MIXED_CASE
 _OF_A_PAYLOAD = {
     _INVALID_CHARACTER: "a character of the payload is not of the alphabet",
     _MIXED_CASE: "the payload has letters of both cases",
 }
 
 # There is no nearest text.
-_NO_NEAREST = 34
+_NO_NEAREST = _declared.CODEX32_NO_NEAREST
 
 # A share is of another set than the first, or an index stands twice.
-_OTHER_SET = 75
-_INDEX_TWICE = 76
+_OTHER_SET = _declared.CODEX32_OTHER_SET
+_INDEX_TWICE = _declared.CODEX32_INDEX_TWICE
 
 # There are not as many random bytes as are drawn.
-_BAD_RANDOM = 66
+_BAD_RANDOM = _declared.CODEX32_BAD_RANDOM
 
 # What is given is no threshold, or no share index.
-_BAD_THRESHOLD = 83
-_NO_SHARE_INDEX = 86
+_BAD_THRESHOLD = _declared.CODEX32_BAD_THRESHOLD
+_NO_SHARE_INDEX = _declared.CODEX32_NO_SHARE_INDEX
 
 # Too many bits are left over, or a buffer is too small: the string itself is accepted.
-_BITS_LEFT_OVER = 87
-_NO_ROOM = 92
+_BITS_LEFT_OVER = _declared.CODEX32_BITS_LEFT_OVER
+_NO_ROOM = _declared.CODEX32_NO_ROOM
 
 
 class Share(NamedTuple):

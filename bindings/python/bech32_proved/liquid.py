@@ -14,13 +14,13 @@ the curve is not tested.
 import ctypes
 from typing import Iterable, List, NamedTuple, Optional
 
-from . import _library
+from . import _declared, _library
 from ._library import Buffer, Octets, given, octets, refuse, utf8, whole
 from .texts import Correction, _known, listed_near
 
 # There is no correction, and a version is above 31.
-_NO_CORRECTION = 34
-_NO_ELEMENT = 4
+_NO_CORRECTION = _declared.BECH32_NO_CORRECTION
+_NO_ELEMENT = _declared.BECH32_BAD_NUMBER
 
 # A text is mended if twice the number of wrong characters, plus the number of those known to be wrong, is at most this.
 _BOUND = 6

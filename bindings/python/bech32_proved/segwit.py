@@ -3,13 +3,13 @@
 import ctypes
 from typing import List, NamedTuple, Optional, Tuple
 
-from . import _library
+from . import _declared, _library
 from ._library import Buffer, Lent, Octets, given, in_case_of, octets, refuse, utf8, whole
 from .edits import Edit, EditKind
 from .texts import Change
 
 # A version is above 31.
-_NO_ELEMENT = 4
+_NO_ELEMENT = _declared.BECH32_BAD_NUMBER
 
 
 class Address(NamedTuple):

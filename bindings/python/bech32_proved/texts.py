@@ -5,7 +5,7 @@ from enum import Enum
 from functools import partial
 from typing import Any, FrozenSet, Iterable, List, NamedTuple, Optional, Tuple
 
-from . import _library, _searches
+from . import _declared, _library, _searches
 from ._library import Buffer, Octets, given, in_case_of, listed, octets, refuse, utf8, whole
 from .errors import BadElement, WrongChecksum
 
@@ -16,7 +16,7 @@ ALPHABET = "qpzry9x8gf2tvdw0s3jn54khce6mua7l"
 _UNREADABLE, _FILLER = "?", "0"
 
 # There is no correction.
-_NO_CORRECTION = 34
+_NO_CORRECTION = _declared.BECH32_NO_CORRECTION
 
 # The bytes that near texts are put into at first. If all of them take more, the first search says how much, and a
 # second one puts them.
