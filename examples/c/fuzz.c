@@ -2277,7 +2277,7 @@ static void try_segwit_decode_many(void) {
     place(&versions_area, NULL, item_room(column_count), 1);
     place(&parts_area, NULL, item_room(column_count), 1);
     place(&places_area, NULL, 4 * item_room(column_count + 1), 4);
-    place(&written_2, NULL, percent(70) ? 40 * column_count : below(40 * column_count + 1), 1);
+    place(&written_2, NULL, percent(70) ? BECH32_MAX_SEGWIT_PROGRAM * column_count : below(BECH32_MAX_SEGWIT_PROGRAM * column_count + 1), 1);
     size_t *told = new_length(&length_1), places = places_area.length / 4;
     uint32_t number = bech32_segwit_decode_many(
         given_column(), column_first, identifier_area.buffer, hrp_length, numbers_area.buffer, column_count,
@@ -2332,7 +2332,7 @@ static void try_segwit_encode_many(void) {
     }
     place(&versions_area, text, percent(90) ? column_count : below(ROWS), 1);
     place(&places_area, NULL, 4 * item_room(column_count + 1), 4);
-    place(&written_2, NULL, percent(70) ? 90 * column_count : below(90 * column_count + 1), 1);
+    place(&written_2, NULL, percent(70) ? BECH32_MAX_SEGWIT_TEXT * column_count : below(BECH32_MAX_SEGWIT_TEXT * column_count + 1), 1);
     size_t *told = new_length(&length_1), places = places_area.length / 4;
     uint32_t number = bech32_segwit_encode_many(
         identifier_area.buffer, part_length, versions_area.buffer, versions_area.length, given_column(), column_first,
