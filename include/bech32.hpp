@@ -477,9 +477,9 @@ struct Address {
 };
 
 /*
- * Encodes an address, in lower case. A key of another length is refused with 71.
+ * Encodes an address, in lower case. A key of another length is refused with 79.
  *
- * Refusals, the first that applies: 71; 4 (a version above 31), 2, 11 to 15, 52, 70, 46, 47, 48.
+ * Refusals, the first that applies: 79; 4 (a version above 31), 2, 11 to 15, 52, 70, 46, 47, 48.
  */
 inline Outcome<Text<BECH32_MAX_LIQUID_TEXT>> encode(std::string_view hrp, std::uint32_t version, Octets key,
                                                     Octets program) noexcept {
@@ -495,7 +495,7 @@ inline Outcome<Text<BECH32_MAX_LIQUID_TEXT>> encode(std::string_view hrp, std::u
 /*
  * Decodes an address. Any human-readable part is accepted: compare it with that of your network (`lq`).
  *
- * Refusals, the first that applies: 2; 21, 22, 23, 11 to 15; 42, 43, 70; 31, 32, 33; 42, 44, 45; 71; 46 to 48.
+ * Refusals, the first that applies: 2; 21, 22, 23, 11 to 15; 42, 43, 70; 31, 32, 33; 42, 44, 45; 79; 46 to 48.
  */
 inline Outcome<Address> decode(std::string_view text) noexcept {
     std::uint32_t version = 0;

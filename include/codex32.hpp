@@ -247,7 +247,7 @@ inline Outcome<Share> share(std::string_view text) noexcept {
 /*
  * Makes the string of a header and bytes, in lower case. To share a secret, call split.
  *
- * Refusals, the first that applies: 83, 85, 86, 84, 55.
+ * Refusals, the first that applies: 83, 85, 86, 84, 56.
  */
 inline Outcome<SecretText> encode(std::uint32_t threshold, std::string_view identifier, char share_index,
                                   Octets bytes) noexcept {
@@ -260,7 +260,7 @@ inline Outcome<SecretText> encode(std::uint32_t threshold, std::string_view iden
 /*
  * Makes the string of a header and the characters of a payload, in lower case. To share a secret, call split.
  *
- * Refusals, the first that applies: 83, 85, 86, 84; of the payload 21, 22, 55.
+ * Refusals, the first that applies: 83, 85, 86, 84; of the payload 21, 22, 56.
  */
 inline Outcome<SecretText> encode_payload(std::uint32_t threshold, std::string_view identifier, char share_index,
                                           std::string_view payload) noexcept {
@@ -275,7 +275,7 @@ inline Outcome<SecretText> encode_payload(std::uint32_t threshold, std::string_v
  * of what a std::string_view can show.
  *
  * Refusals, the first that applies: 4; 86; of the texts in their order 2; 21, 22, 23, 11 to 15; 82; 81; 33;
- * 83; 84; then 62, 63, 84, 61, 64.
+ * 83; 84; then 75, 76, 84, 74, 77.
  */
 template <class List>
 Outcome<SecretText> derive(char share_index, const List& texts) noexcept {
@@ -297,7 +297,7 @@ Outcome<SecretText> derive(char share_index, const List& texts) noexcept {
  * identifier are taken for one set, and as many of them as the threshold recover other bytes, without a
  * refusal. To get more shares later, derive them from enough shares (`derive`).
  *
- * Refusals, the first that applies: 83, 85, 84 (the threshold is 0), 55, 65, 66, 68.
+ * Refusals, the first that applies: 83, 85, 84 (the threshold is 0), 56, 78, 66, 68.
  */
 inline Outcome<Shares> split(std::uint32_t threshold, std::string_view identifier, Octets secret, Octets random,
                              std::size_t count) noexcept {
@@ -321,7 +321,7 @@ inline Outcome<Shares> split(std::uint32_t threshold, std::string_view identifie
  * Recovers a secret from shares of one set.
  *
  * Refusals, the first that applies: 4; of the texts in their order 2; 21, 22, 23, 11 to 15; 82; 81; 33; 83;
- * 84; then 62, 63, 61, 64; 87.
+ * 84; then 75, 76, 74, 77; 87.
  */
 template <class List>
 Outcome<SecretBytes> recover(const List& texts) noexcept {

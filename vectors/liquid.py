@@ -48,7 +48,7 @@ def decode(text):
     if any(left):
         raise Refusal(45)
     if len(payload) < 33:
-        raise Refusal(71)
+        raise Refusal(79)
     model.test_program(data[0], len(payload) - 33)
     return hrp, data[0], payload[:33], payload[33:]
 

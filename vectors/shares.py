@@ -131,9 +131,9 @@ def split_reply(threshold, count, identifier, secret, drawn):
     if threshold == "0":
         raise Refusal(84)
     if len(secret) not in SIZES:
-        raise Refusal(55)
+        raise Refusal(56)
     if not int(threshold) <= int(count) <= len(INDICES):
-        raise Refusal(65)
+        raise Refusal(78)
     if len(drawn) != (int(threshold) - 1) * len(elements_of_bytes(secret)):
         raise Refusal(66)
     if len(set(drawn)) == 1:
@@ -154,7 +154,7 @@ def reply(line):
     index = "s" if command == "recover" else words.pop(0)
     threshold = int(words[0][3])
     text = given(words, max(threshold, 1), VALUE[index])
-    return f"ok {text}" if text else "err 64"
+    return f"ok {text}" if text else "err 77"
 
 
 # --- lines ---
@@ -263,7 +263,7 @@ def check(lines, replies):
     """Of the lines of `derive`, `recover` and `split`; of the former two, that are not refused for what is said before the values."""
     pairs = list(zip(Path(lines).read_text().splitlines(), Path(replies).read_text().splitlines()))
     asked = [(line, want) for line, want in pairs if line.split(" ")[0] in ("derive", "recover", "split")]
-    asked = [(line, want) for line, want in asked if line.startswith("split ") or want.startswith("ok ") or want == "err 64"]
+    asked = [(line, want) for line, want in asked if line.startswith("split ") or want.startswith("ok ") or want == "err 77"]
     wrong = [(line, want) for line, want in asked if reply(line) != want]
     for line, want in wrong:
         print(f"{line}: {reply(line)}, not {want}")

@@ -35,7 +35,7 @@ const modulesSource = () => filled(read('src', 'modules.js'), {
 // ---- the pages
 
 // The files that a page's script is made of, each behind those that it imports.
-const LIBRARY = ['reasons', 'instance', 'lists', 'calls', 'descriptors', 'library', 'modules'].map((name) => `src/${name}.js`);
+const LIBRARY = ['declared', 'refusals', 'reasons', 'instance', 'lists', 'calls', 'descriptors', 'library', 'modules'].map((name) => `src/${name}.js`);
 const SAYING = ['words', 'sentences', 'tried', 'links', 'typed', 'parts', 'others', 'beginnings', 'pair', 'chance', 'reading', 'kinds',
   'saying', 'codex32', 'offers', 'texts', 'liquid', 'described', 'strings', 'shares', 'answer', 'shown', 'asking', 'fields'];
 const PAGES = {
@@ -102,15 +102,15 @@ const page = ({ template, styles, scripts }, version) => {
 // The file of this folder, which names what stands in out/package, as it is in there.
 const manifest = () => {
   const text = read('package.json');
-  const own = text.replaceAll('"./out/package/', '"./').replace('["out/package"]', '["*.js", "index.d.ts"]').replace(/^ *"scripts": .*\n/m, '');
+  const own = text.replaceAll('"./out/package/', '"./').replace('["out/package"]', '["*.js", "*.d.ts"]').replace(/^ *"scripts": .*\n/m, '');
   if (/out\/package|"scripts"/.test(own)) throw new Error('package.json has another form');
   return own;
 };
 
 const packageFiles = () => {
   const files = { 'modules.js': modulesSource(), 'package.json': manifest(), 'README.md': read('README.md') };
-  const own = ['index', 'library', 'calls', 'lists', 'descriptors', 'columns', 'instance', 'reasons'].map((name) => `${name}.js`);
-  for (const name of [...own, 'index.d.ts']) files[name] = read('src', name);
+  const own = ['index', 'declared', 'library', 'calls', 'lists', 'descriptors', 'columns', 'instance', 'reasons', 'refusals'].map((name) => `${name}.js`);
+  for (const name of [...own, 'index.d.ts', 'refusals.d.ts']) files[name] = read('src', name);
   const licence = path.join(HERE, '..', 'LICENSE');
   if (fs.existsSync(licence)) files.LICENSE = fs.readFileSync(licence, 'utf8');
   return files;

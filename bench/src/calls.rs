@@ -1,7 +1,7 @@
 //! The calls that `include/bech32.h` declares: those of the static library `bech32_c`, and those of
 //! `bench/limit`, which is C.
 
-use crate::Reply;
+use crate::{declared, limit, Reply};
 
 pub const BECH32: u32 = 1;
 pub const BECH32M: u32 = 2;
@@ -78,56 +78,29 @@ pub struct Calls {
     correct: Correct,
 }
 
-// Declares the functions of these names, and gathers them.
-macro_rules! calls {
-    ($encode:ident, $decode:ident, $check:ident, $fault:ident, $segwit_encode:ident,
-     $segwit_decode:ident, $residue:ident, $correct:ident) => {{
-        crate::declared::declare!(
-            $encode,
-            $decode,
-            $check,
-            $fault,
-            $residue,
-            $segwit_encode,
-            $segwit_decode,
-            $correct
-        );
-        Calls {
-            encode: $encode,
-            decode: $decode,
-            check: $check,
-            fault: $fault,
-            segwit_encode: $segwit_encode,
-            segwit_decode: $segwit_decode,
-            residue: $residue,
-            correct: $correct,
-        }
-    }};
-}
-
 /// The library.
-pub static OURS: Calls = calls!(
-    bech32_encode,
-    bech32_decode,
-    bech32_check,
-    bech32_fault,
-    bech32_segwit_encode,
-    bech32_segwit_decode,
-    bech32_residue,
-    bech32_correct
-);
+pub static OURS: Calls = Calls {
+    encode: declared::bech32_encode,
+    decode: declared::bech32_decode,
+    check: declared::bech32_check,
+    fault: declared::bech32_fault,
+    segwit_encode: declared::bech32_segwit_encode,
+    segwit_decode: declared::bech32_segwit_decode,
+    residue: declared::bech32_residue,
+    correct: declared::bech32_correct,
+};
 
-/// As fast as C was made to go.
-pub static LIMIT: Calls = calls!(
-    limit_encode,
-    limit_decode,
-    limit_check,
-    limit_fault,
-    limit_segwit_encode,
-    limit_segwit_decode,
-    limit_residue,
-    limit_correct
-);
+/// As fast as C was made to go. `bench/run` declares these functions as those of the header.
+pub static LIMIT: Calls = Calls {
+    encode: limit::limit_encode,
+    decode: limit::limit_decode,
+    check: limit::limit_check,
+    fault: limit::limit_fault,
+    segwit_encode: limit::limit_segwit_encode,
+    segwit_decode: limit::limit_segwit_decode,
+    residue: limit::limit_residue,
+    correct: limit::limit_correct,
+};
 
 /// The buffers of a caller, which every call uses again.
 pub struct Buffers {

@@ -19,6 +19,7 @@ mod calls;
 mod compare;
 mod corrections;
 mod declared;
+mod limit;
 mod numbers;
 mod random;
 mod report;

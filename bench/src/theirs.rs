@@ -86,9 +86,6 @@ pub mod replies {
     use super::*;
     use crate::numbers;
 
-    // No correction of a text is within the bound.
-    const NO_CORRECTION: u32 = 34;
-
     fn parsed(hrp: &str) -> Result<Hrp, u32> {
         Hrp::parse(hrp).map_err(|e| numbers::hrp(&e))
     }
@@ -162,9 +159,9 @@ pub mod replies {
         std::panic::set_hook(Box::new(|_| {}));
         let found = std::panic::catch_unwind(|| super::correct::<Ck>(&error, text, erasures));
         std::panic::set_hook(shown);
-        let found = found.ok().flatten().ok_or(NO_CORRECTION)?;
+        let found = found.ok().flatten().ok_or(numbers::NO_CORRECTION)?;
         if CheckedHrpstring::new::<Ck>(&found.mended).is_err() {
-            return Err(NO_CORRECTION);
+            return Err(numbers::NO_CORRECTION);
         }
         let listing = found.listing.iter();
         let words = listing.map(|(place, value)| format!("{place}:{}", value.to_u8()));

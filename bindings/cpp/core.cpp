@@ -6,6 +6,8 @@
 
 namespace bech32 {
 
+static_assert(BECH32 == BECH32_MAX_SEGWIT_TEXT, "the most characters of a text are those of the header");
+
 namespace {
 
 using bech32_proved::Checksum;

@@ -1,4 +1,4 @@
-// Written by tools/refusals.
+// Made by tools/make from docs/refusals.tsv; do not edit.
 
 package bech32proved
 
@@ -92,7 +92,7 @@ const (
 	UnsupportedVersion Number = 70
 
 	// NoBlindingKey: a confidential address has less than 33 bytes behind its version.
-	NoBlindingKey Number = 71
+	NoBlindingKey Number = 79
 
 	// NotInDescriptor: a character may not stand in a descriptor, or not in its checksum.
 	NotInDescriptor Number = 80

@@ -25,6 +25,7 @@
 
 #include "bech32.h"
 #include "codex32.h"
+#include "refusals.h"
 
 #if defined(__has_feature)
 #if __has_feature(address_sanitizer)
@@ -158,20 +159,8 @@ static size_t room(size_t usual) {
 typedef struct {
     const char *name;
     unsigned long long calls, numbers[NUMBERS];
-    const uint32_t *refusals; /* those that the header lists, ended by 0 */
+    const uint32_t *refusals; /* those that the header lists, ended by 0 (refusals.h) */
 } Function;
-
-static const uint32_t of_encode[] = {2, 4, 11, 12, 13, 14, 15, 51, 92, 0};
-static const uint32_t of_decode[] = {2, 11, 12, 13, 14, 15, 21, 22, 23, 31, 32, 33, 92, 0};
-static const uint32_t of_decode_strict[] = {2, 4, 11, 12, 13, 14, 15, 21, 22, 23, 31, 32, 33, 44, 45,
-                                            92, 0};
-static const uint32_t of_decode_elements[] = {2, 4, 11, 12, 13, 14, 15, 21, 22, 23, 31, 32, 33, 92, 0};
-static const uint32_t of_encode_elements[] = {2, 4, 11, 12, 13, 14, 15, 51, 67, 92, 0};
-static const uint32_t of_check[] = {2, 4, 11, 12, 13, 14, 15, 21, 22, 23, 31, 32, 33, 0};
-static const uint32_t of_segwit_encode[] = {2, 4, 11, 12, 13, 14, 15, 46, 47, 48, 52, 53, 92, 0};
-static const uint32_t of_segwit_decode[] = {2, 11, 12, 13, 14, 15, 21, 22, 23, 32, 33, 41, 42, 43, 44,
-                                            45, 46, 47, 48, 92, 0};
-static const uint32_t of_residue[] = {4, 0};
 
 static Function encode = {"bech32_encode", 0, {0}, of_encode};
 static Function decode = {"bech32_decode", 0, {0}, of_decode};
@@ -184,21 +173,14 @@ static Function segwit_encode = {"bech32_segwit_encode", 0, {0}, of_segwit_encod
 static Function segwit_decode = {"bech32_segwit_decode", 0, {0}, of_segwit_decode};
 static Function residue = {"bech32_residue", 0, {0}, of_residue};
 
-static const uint32_t of_suggest[] = {2, 11, 12, 13, 14, 15, 21, 22, 23, 91, 92, 0};
 static Function suggest_calls = {"bech32_suggest", 0, {0}, of_suggest};
 
-static const uint32_t of_check_many[] = {4, 0};
-static const uint32_t of_segwit_decode_many[] = {2, 4, 12, 13, 14, 15, 92, 0};
-static const uint32_t of_segwit_encode_many[] = {4, 92, 0};
-static const uint32_t of_validity_of[] = {92, 0};
 static Function check_many_calls = {"bech32_check_many", 0, {0}, of_check_many};
 static Function segwit_decode_many_calls = {"bech32_segwit_decode_many", 0, {0}, of_segwit_decode_many};
 static Function segwit_encode_many_calls = {"bech32_segwit_encode_many", 0, {0}, of_segwit_encode_many};
 static Function validity_of_calls = {"bech32_validity_of", 0, {0}, of_validity_of};
 
 /* The sentences of the numbers. */
-static const uint32_t of_message[] = {92, 0};
-static const uint32_t of_codex32_message[] = {92, 0};
 static Function message = {"bech32_message", 0, {0}, of_message};
 static Function codex32_message_calls = {"codex32_message", 0, {0}, of_codex32_message};
 
@@ -702,7 +684,6 @@ static void try_residue(void) {
 }
 
 /* Mistyped texts. */
-static const uint32_t of_correct[] = {2, 4, 11, 12, 13, 14, 15, 21, 22, 23, 31, 32, 34, 92, 0};
 static Function correct = {"bech32_correct", 0, {0}, of_correct};
 static Area erasures_area, locations_area, values_area, mended_area, length_3;
 
@@ -760,7 +741,6 @@ static void try_correct(void) {
 }
 
 /* Codex32 strings. */
-static const uint32_t of_codex32_parse[] = {2, 11, 12, 13, 14, 15, 21, 22, 23, 33, 81, 82, 83, 84, 0};
 static Function read_codex32 = {"codex32_parse", 0, {0}, of_codex32_parse};
 static Area threshold_area, share_index_area;
 
@@ -821,7 +801,6 @@ static void try_codex32_parse(void) {
            "the threshold or the share index");
 }
 
-static const uint32_t of_codex32_propose[] = {2, 11, 12, 13, 14, 15, 21, 22, 23, 34, 81, 82, 91, 92, 0};
 static Function propose_codex32 = {"codex32_propose", 0, {0}, of_codex32_propose};
 static Area memory_area;
 
@@ -874,17 +853,6 @@ static void try_codex32_propose(void) {
 }
 
 /* Strings of either length. Random headers and bytes, of which a string is mostly made. */
-static const uint32_t of_codex32_share[] = {2, 11, 12, 13, 14, 15, 21, 22, 23, 33, 81, 82, 83, 84, 87,
-                                            92, 0};
-static const uint32_t of_codex32_encode[] = {55, 83, 84, 85, 86, 92, 0};
-static const uint32_t of_codex32_encode_payload[] = {21, 22, 55, 83, 84, 85, 86, 92, 0};
-static const uint32_t of_codex32_derive[] = {2, 4, 11, 12, 13, 14, 15, 21, 22, 23, 33, 61, 62, 63, 64,
-                                             81, 82, 83, 84, 86, 92, 0};
-static const uint32_t of_codex32_split[] = {55, 65, 66, 68, 83, 84, 85, 92, 0};
-static const uint32_t of_codex32_recover[] = {2, 4, 11, 12, 13, 14, 15, 21, 22, 23, 33, 61, 62, 63, 64,
-                                              81, 82, 83, 84, 87, 92, 0};
-static const uint32_t of_codex32_propose_long[] = {2, 11, 12, 13, 14, 15, 21, 22, 23, 34, 81, 82, 91,
-                                                   92, 0};
 static Function read_share = {"codex32_share", 0, {0}, of_codex32_share};
 static Function encode_codex32 = {"codex32_encode", 0, {0}, of_codex32_encode};
 static Function encode_payload = {"codex32_encode_payload", 0, {0}, of_codex32_encode_payload};
@@ -1472,7 +1440,6 @@ static void try_codex32_propose_long(void) {
 }
 
 /* Texts near to a mistyped one: few errors and erasures, since many take long. */
-static const uint32_t of_nearest[] = {2, 4, 11, 12, 13, 14, 15, 21, 22, 23, 31, 32, 91, 92, 0};
 static Function nearest = {"bech32_nearest", 0, {0}, of_nearest};
 
 static void expect_near(uint32_t checksum, const uint8_t *found, size_t errors, const size_t *erasures,
@@ -1543,14 +1510,10 @@ static void try_nearest(void) {
 }
 
 /* Confidential addresses of Liquid. */
-static const uint32_t of_liquid_encode[] = {2, 4, 11, 12, 13, 14, 15, 46, 47, 48, 52, 70, 92, 0};
 static Function liquid_encode = {"bech32_liquid_encode", 0, {0}, of_liquid_encode};
 
-static const uint32_t of_liquid_decode[] = {2, 11, 12, 13, 14, 15, 21, 22, 23, 31, 32, 33, 42, 43, 44,
-                                            45, 46, 47, 48, 70, 71, 92, 0};
 static Function liquid_decode = {"bech32_liquid_decode", 0, {0}, of_liquid_decode};
 
-static const uint32_t of_liquid_nearest[] = {2, 4, 11, 12, 13, 14, 15, 21, 22, 23, 31, 32, 91, 92, 0};
 static Function liquid_nearest = {"bech32_liquid_nearest", 0, {0}, of_liquid_nearest};
 
 static void random_key(uint8_t *key) {
@@ -1722,7 +1685,6 @@ static void try_liquid_nearest(void) {
 }
 
 /* Texts that one edit makes of a mistyped one. */
-static const uint32_t of_near_edits[] = {2, 4, 11, 12, 13, 14, 15, 21, 22, 23, 91, 92, 0};
 static Function near_edits = {"bech32_near_edits", 0, {0}, of_near_edits};
 
 #define EDITS 64u
@@ -1959,13 +1921,9 @@ static void try_codex32_message(void) {
 }
 
 /* Descriptors: their checksums, and those that one edit makes of a text. */
-static const uint32_t of_descriptor_checksum[] = {80, 92, 0};
 static Function descriptor_checksum = {"bech32_descriptor_checksum", 0, {0}, of_descriptor_checksum};
-static const uint32_t of_descriptor_check[] = {33, 80, 88, 0};
 static Function descriptor_check = {"bech32_descriptor_check", 0, {0}, of_descriptor_check};
-static const uint32_t of_descriptor_mend[] = {4, 89, 91, 92, 0};
 static Function descriptor_mend = {"bech32_descriptor_mend", 0, {0}, of_descriptor_mend};
-static const uint32_t of_descriptor_mend_two[] = {89, 91, 92, 0};
 static Function descriptor_mend_two = {"bech32_descriptor_mend_two", 0, {0}, of_descriptor_mend_two};
 
 /* Characters of a descriptor, at times with a byte that is none. */
@@ -2319,7 +2277,7 @@ static void try_segwit_decode_many(void) {
     place(&versions_area, NULL, item_room(column_count), 1);
     place(&parts_area, NULL, item_room(column_count), 1);
     place(&places_area, NULL, 4 * item_room(column_count + 1), 4);
-    place(&written_2, NULL, percent(70) ? 40 * column_count : below(40 * column_count + 1), 1);
+    place(&written_2, NULL, percent(70) ? BECH32_MAX_SEGWIT_PROGRAM * column_count : below(BECH32_MAX_SEGWIT_PROGRAM * column_count + 1), 1);
     size_t *told = new_length(&length_1), places = places_area.length / 4;
     uint32_t number = bech32_segwit_decode_many(
         given_column(), column_first, identifier_area.buffer, hrp_length, numbers_area.buffer, column_count,
@@ -2374,7 +2332,7 @@ static void try_segwit_encode_many(void) {
     }
     place(&versions_area, text, percent(90) ? column_count : below(ROWS), 1);
     place(&places_area, NULL, 4 * item_room(column_count + 1), 4);
-    place(&written_2, NULL, percent(70) ? 90 * column_count : below(90 * column_count + 1), 1);
+    place(&written_2, NULL, percent(70) ? BECH32_MAX_SEGWIT_TEXT * column_count : below(BECH32_MAX_SEGWIT_TEXT * column_count + 1), 1);
     size_t *told = new_length(&length_1), places = places_area.length / 4;
     uint32_t number = bech32_segwit_encode_many(
         identifier_area.buffer, part_length, versions_area.buffer, versions_area.length, given_column(), column_first,
@@ -2488,13 +2446,6 @@ static void try_descriptor_mend_two(void) {
     expect(fit == 0 || memcmp(written_1.buffer, ample, fit * text_length) == 0, "other texts");
 }
 
-/* Written by tools/functions. */
-
-/* For main. */
-#define WRITTEN_TRIES
-
-/* By hand. */
-
 static void print(const Function *function) {
     printf("%s: %llu calls; ", function->name, function->calls);
     printf("%llu answered", function->numbers[BECH32_OK]);
@@ -2517,7 +2468,6 @@ int main(int argc, char **argv) {
         try_codex32_recover, try_codex32_propose_long,
         try_nearest, try_near_edits, try_liquid_encode, try_liquid_decode, try_liquid_nearest, try_message, try_descriptor_checksum, try_descriptor_check, try_descriptor_mend,
         try_descriptor_mend_two, try_codex32_message, try_check_many, try_segwit_decode_many, try_segwit_encode_many, try_validity_of,
-        WRITTEN_TRIES
 #endif
     };
     unsigned long long count = argc > 1 ? strtoull(argv[1], NULL, 10) : 100000;

@@ -1,5 +1,6 @@
 // The functions of include/bech32.h and include/codex32.h: each returns `{ number }`, where the number is that of a
 // refusal, or 0 and with it what the function wrote.
+import { C } from './declared.js';
 import { Instance, runner } from './instance.js';
 import { LIST_REGIONS, SUGGEST_REGIONS, liquidNearestOf, listed, nearEditsOf, nearestOf, suggestionsOf } from './lists.js';
 import { ALPHABET } from './reasons.js';
@@ -14,22 +15,25 @@ export const TEXT_ROOM = 8192;
 // The same of codex32 strings.
 const STRING_ROOM = 4096;
 
-const TEXT_TOO_LONG = 31, ADDRESS_TOO_LONG = 41, CODEX32_BAD_LENGTH = 82;
+const {
+  BECH32_TEXT_TOO_LONG: TEXT_TOO_LONG, BECH32_ADDRESS_TOO_LONG: ADDRESS_TOO_LONG, CODEX32_BAD_LENGTH, CODEX32_BAD_RANDOM: BAD_RANDOM,
+} = C;
 
 // Sizes that are always large enough, as the headers have them.
-const MAX_TEXT = 1023, MAX_HRP = 83, MAX_BYTES = 634, MAX_SEGWIT_TEXT = 90, MAX_SEGWIT_PROGRAM = 40;
-const MAX_LIQUID_TEXT = 201, MAX_LIQUID_PROGRAM = 32, LIQUID_KEY = 33;
-const MAX_LONG_TEXT = 7089, MAX_LONG_BYTES = 4425, MAX_LONG_ELEMENTS = 7081;
-const MAX_CODEX32 = 127, MAX_CODEX32_BYTES = 64, IDENTIFIER = 4;
-const CODEX32_MEMORY = 16384 + 8 * MAX_CODEX32;
+const {
+  BECH32_MAX_TEXT: MAX_TEXT, BECH32_MAX_HRP: MAX_HRP, BECH32_MAX_BYTES: MAX_BYTES, BECH32_MAX_SEGWIT_TEXT: MAX_SEGWIT_TEXT,
+  BECH32_MAX_SEGWIT_PROGRAM: MAX_SEGWIT_PROGRAM, BECH32_MAX_LIQUID_TEXT: MAX_LIQUID_TEXT,
+  BECH32_MAX_LIQUID_PROGRAM: MAX_LIQUID_PROGRAM, BECH32_LIQUID_KEY_LENGTH: LIQUID_KEY, BECH32_MAX_LONG_TEXT: MAX_LONG_TEXT,
+  BECH32_MAX_LONG_BYTES: MAX_LONG_BYTES, BECH32_MAX_LONG_ELEMENTS: MAX_LONG_ELEMENTS, CODEX32_TEXT_SIZE: MAX_CODEX32,
+  CODEX32_BYTES_SIZE: MAX_CODEX32_BYTES, CODEX32_IDENTIFIER_LENGTH: IDENTIFIER,
+} = C;
+const CODEX32_MEMORY = C.CODEX32_MEMORY(MAX_CODEX32);
 
 /** The most strings that may be put together: one for each share index. */
-export const MOST_SHARES = 32;
+export const MOST_SHARES = C.CODEX32_MAX_SHARES;
 
 // The most shares that a secret is split into, the most random bytes that this takes, and the most characters of all shares.
-const MOST_SPLIT = MOST_SHARES - 1, MOST_RANDOM = 8 * 103, SHARES_ROOM = MOST_SPLIT * MAX_CODEX32;
-
-const BAD_RANDOM = 66;
+const MOST_SPLIT = C.CODEX32_MAX_SPLIT, MOST_RANDOM = 8 * 103, SHARES_ROOM = MOST_SPLIT * MAX_CODEX32;
 
 // Room for the locations of a correction: bech32_correct lists three at most.
 const MAX_LISTED = 8;

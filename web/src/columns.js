@@ -1,26 +1,27 @@
 // Columns: many rows in one call. A column is put into the memory of a module of its own in blocks, each once, and what is made
 // of it is an array of Apache Arrow again.
+import { C } from './declared.js';
 import { Instance } from './instance.js';
 import { ALL_CHECKSUMS, TEXT_ROOM } from './calls.js';
-import { SENTENCES } from './reasons.js';
+import { SENTENCES } from './refusals.js';
 
 /** The row is null. */
-export const NULL_ROW = 1;
+export const NULL_ROW = C.BECH32_NULL_ROW;
 /** The offsets of the row do not lie in the column. */
-export const BAD_ROW = 4;
+export const BAD_ROW = C.BECH32_BAD_NUMBER;
 /** The address has another human-readable part than is wanted. */
-export const OTHER_HRP = 49;
+export const OTHER_HRP = C.BECH32_OTHER_HRP;
 
-const TEXT_TOO_LONG = 31, ADDRESS_TOO_LONG = 41;
+const TEXT_TOO_LONG = C.BECH32_TEXT_TOO_LONG, ADDRESS_TOO_LONG = C.BECH32_ADDRESS_TOO_LONG;
 
 // The most rows and bytes of a block; a row with more bytes than a text may have is cut, and is a block by itself.
 const ROWS = 4096, BYTES = 1 << 19, ROW_ROOM = TEXT_ROOM;
-const HRP_ROOM = 96, MAX_SEGWIT_TEXT = 90, MAX_SEGWIT_PROGRAM = 40;
+const HRP_ROOM = 96, MAX_SEGWIT_TEXT = C.BECH32_MAX_SEGWIT_TEXT, MAX_SEGWIT_PROGRAM = C.BECH32_MAX_SEGWIT_PROGRAM;
 const MOST_BYTES = 2 ** 31 - 1, LARGEST = 2 ** 31 - 1;
 // Room is made for EXPECTED bytes of results at most while there are fewer, and for SPARE more than earlier rows suggest.
 const EXPECTED = 1 << 26, SPARE = 1 / 32;
 
-const SIZE = 8, OFFSETS_32 = 1;
+const SIZE = 8, OFFSETS_32 = C.BECH32_OFFSETS_32;
 // A column is eight sizes and a layout. Rows before the first of a block stand there where bits of a byte are theirs.
 const COLUMN = 8 * SIZE + SIZE, BITS = 8;
 
@@ -392,7 +393,7 @@ export const columnFunctions = (module, testPart = () => {}) => {
 };
 
 // Of these a text alone is thrown otherwise, or never.
-const OF_ROWS = { 2: 'The text is not UTF-8.', [BAD_ROW]: 'The offsets of the row do not lie in the column.' };
+const OF_ROWS = { [C.BECH32_NOT_UTF8]: 'The text is not UTF-8.', [BAD_ROW]: 'The offsets of the row do not lie in the column.' };
 
 /** The sentence of the number of a row; of 0, and of what is no row's, it is empty. */
 export const message = (number) => OF_ROWS[number] ?? SENTENCES[number] ?? '';

@@ -1,16 +1,16 @@
 // The calls of bech32_c on descriptors. One may hold private keys, and may be long: they have an instance of their own, of which
 // nothing is left after each call.
+import { C } from './declared.js';
 import { runner } from './instance.js';
 
-const SIZE = 8, CHECKSUM = 8, NO_MEMORY = 91, NO_ROOM = 92;
+const SIZE = 8, CHECKSUM = C.BECH32_DESCRIPTOR_CHECKSUM, NO_MEMORY = C.BECH32_NO_MEMORY, NO_ROOM = C.BECH32_NO_ROOM;
 
 /** Longer ones are not mended, by one mistake, and by two changed characters. */
-export const MAX_DESCRIPTOR = 7500, MAX_DESCRIPTOR_TWO = 1400;
+export const MAX_DESCRIPTOR = C.BECH32_MAX_DESCRIPTOR, MAX_DESCRIPTOR_TWO = C.BECH32_MAX_DESCRIPTOR_TWO;
 
 // Room for this many texts, and memory, which suffices for most. Where they do not, the room that the call tells is made, or this
 // many times as much memory, up to the most.
-const TEXTS = 8, MEMORY = 16384, OF_A_CHARACTER = 400, MORE = 8, MOST = 1 << 28;
-const TWO_MEMORY = 65536, TWO_OF_A_CHARACTER = 4608;
+const TEXTS = 8, MORE = 8, MOST = 1 << 28;
 
 // The kinds of mistakes by their numbers, with how much longer a text is that each makes.
 const KINDS = [null, ['swapped', 0], ['leftOut', -1], ['putIn', 1], ['changed', 0]];
@@ -74,14 +74,14 @@ const callsBy = (run) => ({
   mend(text, changed) {
     const octets = octetsOf(text), size = octets.length + 1;
     const grown = (count) => ({ kinds: count, places: 2 * SIZE * count, near: count * size });
-    const lent = MEMORY + OF_A_CHARACTER * Math.min(size, MAX_DESCRIPTOR);
+    const lent = C.BECH32_DESCRIPTOR_MEND_MEMORY(Math.min(size, MAX_DESCRIPTOR));
     const regions = { text: octets.length, memory: 2 * SIZE, lent, count: SIZE, ...grown(TEXTS) };
     return withRoom(run, regions, grown, (it, sizes) => mendedIn(it, octets, changed, sizes));
   },
   mendTwo(text) {
     const octets = octetsOf(text), size = octets.length;
     const grown = (count) => ({ places: 2 * SIZE * count, near: count * size });
-    const lent = TWO_MEMORY + TWO_OF_A_CHARACTER * Math.min(size, MAX_DESCRIPTOR_TWO);
+    const lent = C.BECH32_DESCRIPTOR_TWO_MEMORY(Math.min(size, MAX_DESCRIPTOR_TWO));
     const regions = { text: size, memory: 2 * SIZE, lent, count: SIZE, ...grown(TEXTS) };
     return withRoom(run, regions, grown, (it, sizes) => mendedByTwoIn(it, octets, sizes));
   },

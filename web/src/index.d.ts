@@ -1,3 +1,5 @@
+import type { Code } from './refusals.js';
+
 /** Bech32 is that of BIP-173, Bech32m that of BIP-350. */
 export type Checksum = 'bech32' | 'bech32m';
 
@@ -8,16 +10,7 @@ export type Checksum = 'bech32' | 'bech32m';
  */
 export type AnyChecksum = Checksum | 'longBech32' | 'longBech32m';
 
-/** Why a text, or what is to become one, is refused. */
-export type Code =
-  | 'NULL_ROW' | 'HRP_EMPTY' | 'HRP_TOO_LONG' | 'HRP_NOT_ASCII' | 'HRP_INVALID' | 'HRP_MIXED_CASE'
-  | 'INVALID_CHARACTER' | 'MIXED_CASE' | 'NO_SEPARATOR' | 'TEXT_TOO_LONG' | 'NO_CHECKSUM' | 'WRONG_CHECKSUM'
-  | 'ADDRESS_TOO_LONG' | 'NO_DATA' | 'BAD_VERSION' | 'PADDING_TOO_LONG' | 'PADDING_NOT_ZERO' | 'PROGRAM_TOO_SHORT'
-  | 'PROGRAM_TOO_LONG' | 'PROGRAM_NOT_V0' | 'OTHER_HRP' | 'ENCODED_TOO_LONG' | 'ENCODED_BAD_VERSION'
-  | 'ENCODED_ADDRESS_TOO_LONG' | 'BAD_SIZE' | 'TOO_FEW_SHARES' | 'OTHER_SET' | 'INDEX_TWICE' | 'CONTRADICTION'
-  | 'BAD_COUNT' | 'BAD_RANDOM' | 'BAD_ELEMENT' | 'EQUAL_RANDOM' | 'UNSUPPORTED_VERSION' | 'NO_BLINDING_KEY'
-  | 'NOT_IN_DESCRIPTOR' | 'NOT_MS' | 'BAD_LENGTH' | 'BAD_THRESHOLD' | 'BAD_SHARE_INDEX' | 'BAD_IDENTIFIER'
-  | 'NO_SHARE_INDEX' | 'BITS_LEFT_OVER' | 'NO_DESCRIPTOR_CHECKSUM' | 'DESCRIPTOR_TOO_LONG';
+export type { Code };
 
 /** A refusal. Its `message` is a sentence with the figures and the character at fault. */
 export class Refused extends Error {

@@ -1,5 +1,6 @@
 // What users call: the functions of the library with the values of JavaScript, and refusals as errors.
 import { ALL_CHECKSUMS, bech32Calls, codex32Calls, CHECKSUMS, MOST_SHARES } from './calls.js';
+import { C } from './declared.js';
 import { descriptorCalls } from './descriptors.js';
 import { asRead, asciiLower, reasonsOf } from './reasons.js';
 
@@ -21,7 +22,9 @@ export class Refused extends Error {
   }
 }
 
-const NOT_UTF8 = 2, NO_CORRECTION = 34, NO_MEMORY = 91, NO_ROOM = 92;
+const {
+  BECH32_NOT_UTF8: NOT_UTF8, BECH32_NO_CORRECTION: NO_CORRECTION, BECH32_NO_MEMORY: NO_MEMORY, BECH32_NO_ROOM: NO_ROOM,
+} = C;
 
 const text = (it, what = 'the text') => {
   if (typeof it !== 'string') throw new TypeError(`${what} is no string`);

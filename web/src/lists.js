@@ -1,6 +1,8 @@
 // The calls of bech32_c that list texts: each counts all of them, and puts as many as there is room for.
+import { C } from './declared.js';
+
 const SIZE = 8;
-const NO_MEMORY = 91, NO_ROOM = 92;
+const NO_MEMORY = C.BECH32_NO_MEMORY, NO_ROOM = C.BECH32_NO_ROOM;
 
 // Room for the texts and for the edits that make them, and memory that they are worked out in, which suffices for most. Where
 // they do not, the room that the call tells is made, or this many times as much memory, up to the most.
@@ -60,11 +62,12 @@ export const nearEditsOf = (checksum, text) => (it, regions) => {
 };
 
 // What suffices for each suggestion: memory, and room for this many addresses.
-const SUGGESTIONS = 48;
+const SUGGESTIONS = C.BECH32_SUGGESTIONS;
 
 /** The regions that suggestions want, in an instance that is wiped after each call. */
 export const SUGGEST_REGIONS = {
-  text: 8192, hrp: 96, memory: 2 * SIZE, lent: 196608, kinds: SUGGESTIONS, editLocations: SIZE * SUGGESTIONS, near: 90 * SUGGESTIONS,
+  text: 8192, hrp: 96, memory: 2 * SIZE, lent: C.BECH32_SUGGEST_MEMORY, kinds: SUGGESTIONS, editLocations: SIZE * SUGGESTIONS,
+  near: C.BECH32_MAX_SEGWIT_TEXT * SUGGESTIONS,
   count: SIZE,
 };
 

@@ -4,68 +4,8 @@
 // by looking at the text once more, is what no function tells: where the separator of a text with a short data part or of
 // no address stands, the value of a witness version, how long a text would be, and where one differs from `ms`. This is
 // no part of what is proved.
-
-/** The codes of the refusals, which the headers have with BECH32_ or CODEX32_ before them. */
-export const CODES = {
-  1: 'NULL_ROW', 11: 'HRP_EMPTY', 12: 'HRP_TOO_LONG', 13: 'HRP_NOT_ASCII', 14: 'HRP_INVALID', 15: 'HRP_MIXED_CASE',
-  21: 'INVALID_CHARACTER', 22: 'MIXED_CASE', 23: 'NO_SEPARATOR', 31: 'TEXT_TOO_LONG', 32: 'NO_CHECKSUM',
-  33: 'WRONG_CHECKSUM', 41: 'ADDRESS_TOO_LONG', 42: 'NO_DATA', 43: 'BAD_VERSION', 44: 'PADDING_TOO_LONG',
-  45: 'PADDING_NOT_ZERO', 46: 'PROGRAM_TOO_SHORT', 47: 'PROGRAM_TOO_LONG', 48: 'PROGRAM_NOT_V0', 49: 'OTHER_HRP',
-  51: 'ENCODED_TOO_LONG', 52: 'ENCODED_BAD_VERSION', 53: 'ENCODED_ADDRESS_TOO_LONG', 55: 'BAD_SIZE',
-  61: 'TOO_FEW_SHARES', 62: 'OTHER_SET', 63: 'INDEX_TWICE', 64: 'CONTRADICTION', 65: 'BAD_COUNT', 66: 'BAD_RANDOM',
-  67: 'BAD_ELEMENT', 68: 'EQUAL_RANDOM', 70: 'UNSUPPORTED_VERSION', 71: 'NO_BLINDING_KEY', 80: 'NOT_IN_DESCRIPTOR',
-  81: 'NOT_MS', 82: 'BAD_LENGTH', 83: 'BAD_THRESHOLD', 84: 'BAD_SHARE_INDEX', 85: 'BAD_IDENTIFIER',
-  86: 'NO_SHARE_INDEX', 87: 'BITS_LEFT_OVER', 88: 'NO_DESCRIPTOR_CHECKSUM', 89: 'DESCRIPTOR_TOO_LONG',
-};
-
-/** What is said of a refusal that no sentence with figures fits. */
-export const SENTENCES = {
-  1: 'The row is null.',
-  11: 'The human-readable part is empty.',
-  12: 'The human-readable part has more than 83 bytes.',
-  13: 'The human-readable part has a character that is not ASCII.',
-  14: 'The human-readable part has a byte that is not from 33 to 126.',
-  15: 'The human-readable part has letters of both cases.',
-  21: 'A character behind the separator may not stand there.',
-  22: 'The text has letters of both cases.',
-  23: 'The text has no separator, “1”.',
-  31: 'The text has more than 1023 characters (7089 by a long checksum).',
-  32: 'Too few characters for a checksum stand behind the separator.',
-  33: 'The checksum is wrong.',
-  41: 'The text has more than 90 characters.',
-  42: 'The address has no witness version.',
-  43: 'Its witness version is above 16.',
-  44: 'More than four bits stand behind the last whole byte.',
-  45: 'The bits behind the last whole byte are not all zero.',
-  46: 'The program has less than 2 bytes.',
-  47: 'The program has more than 40 bytes.',
-  48: 'In version 0 the program has neither 20 nor 32 bytes.',
-  49: 'The address has another human-readable part than is wanted.',
-  51: 'The text would have more than 1023 characters (7089 by a long checksum).',
-  52: 'The witness version is above 16.',
-  53: 'The address would have more than 90 characters.',
-  55: 'There are neither 16 to 44 bytes nor 63 or 64.',
-  61: 'There are fewer shares than the threshold.',
-  62: 'A share has another threshold, identifier or length than the first.',
-  63: 'Two shares have one index.',
-  64: 'The shares contradict each other.',
-  65: 'There are fewer shares than the threshold, or more than 31.',
-  66: 'There are not as many random bytes as characters are drawn.',
-  67: 'An element is above 31.',
-  68: 'The random bytes are all equal.',
-  70: 'A confidential address of another witness version than 0 is not supported.',
-  71: 'A confidential address has less than 33 bytes behind its version.',
-  80: 'A character may not stand in a descriptor, or not in its checksum.',
-  81: 'The human-readable part is not “ms”.',
-  82: 'A codex32 string has 48 to 93 characters, a long one 125 to 127.',
-  83: 'The threshold is neither 0 nor a digit from 2 to 9.',
-  84: 'The threshold is 0, and the share index is not “s”.',
-  85: 'The identifier is not four characters of the alphabet in one case.',
-  86: 'The share index is not one character of the alphabet.',
-  87: 'More than four bits stand behind the bytes of the payload.',
-  88: 'The text does not end in “#” and eight characters.',
-  89: 'The text has more than 7500 characters (1400 for two changes), too many to be mended.',
-};
+import { C } from './declared.js';
+import { CODES, NUMBERS, SENTENCES } from './refusals.js';
 
 /** The characters of the elements 0 to 31. */
 export const ALPHABET = 'qpzry9x8gf2tvdw0s3jn54khce6mua7l';
@@ -146,16 +86,17 @@ const nowhere = (sentence) => ({ place: null, sentence });
 // Of a human-readable part, with the place of the character at fault.
 const ofHrp = (number, hrp, place) => {
   switch (number) {
-    case 11: return { place: 0, sentence: 'Nothing stands before the separator “1”: the human-readable part is missing.' };
-    case 12: {
-      const sentence = `The human-readable part, before the last “1”, has ${measured(hrp)}; it has at most 83.`;
-      return { place: beyondBytes(hrp, 83), sentence };
+    case NUMBERS.HRP_EMPTY:
+      return { place: 0, sentence: 'Nothing stands before the separator “1”: the human-readable part is missing.' };
+    case NUMBERS.HRP_TOO_LONG: {
+      const sentence = `The human-readable part, before the last “1”, has ${measured(hrp)}; it has at most ${C.BECH32_MAX_HRP}.`;
+      return { place: beyondBytes(hrp, C.BECH32_MAX_HRP), sentence };
     }
-    case 13: case 14: {
-      const why = number === 13 ? 'is not ASCII, and stands in' : 'may not stand in';
+    case NUMBERS.HRP_NOT_ASCII: case NUMBERS.HRP_INVALID: {
+      const why = number === NUMBERS.HRP_NOT_ASCII ? 'is not ASCII, and stands in' : 'may not stand in';
       return { place, sentence: `${at(hrp, place)} ${why} the human-readable part, before the last “1”.` };
     }
-    case 15: return cases(hrp, place);
+    case NUMBERS.HRP_MIXED_CASE: return cases(hrp, place);
     default: return null;
   }
 };
@@ -176,7 +117,7 @@ const tooLong = (text, most, what) => ({
 const CHECKSUM_NAMES = { 1: 'Bech32', 2: 'Bech32m', 3: 'Bech32', 4: 'Bech32m' };
 
 // The most characters of a text by the number of a checksum.
-const mostOf = (checksum) => (checksum > 2 ? 7089 : 1023);
+const mostOf = (checksum) => (checksum > 2 ? C.BECH32_MAX_LONG_TEXT : C.BECH32_MAX_TEXT);
 
 const noChecksum = (text, separator) => {
   const behind = text.length - separator - 1;
@@ -186,17 +127,18 @@ const noChecksum = (text, separator) => {
 
 const ofText = (calls, number, text, checksum) => {
   switch (number) {
-    case 11: case 12: {
+    case NUMBERS.HRP_EMPTY: case NUMBERS.HRP_TOO_LONG: {
       const length = calls.fault(text);
       return ofHrp(number, text.slice(0, length));
     }
-    case 13: case 14: return ofHrp(number, text, calls.fault(text));
-    case 21: return invalidCharacter(text, calls.fault(text));
-    case 22: return cases(text, calls.fault(text));
-    case 23: return nowhere('There is no separator “1” in the text.');
-    case 31: return tooLong(text, mostOf(checksum), 'a text');
-    case 32: return noChecksum(text, text.lastIndexOf('1'));
-    case 33: return nowhere(checksum ? `The ${CHECKSUM_NAMES[checksum]} checksum is wrong.` : 'The checksum is wrong.');
+    case NUMBERS.HRP_NOT_ASCII: case NUMBERS.HRP_INVALID: return ofHrp(number, text, calls.fault(text));
+    case NUMBERS.INVALID_CHARACTER: return invalidCharacter(text, calls.fault(text));
+    case NUMBERS.MIXED_CASE: return cases(text, calls.fault(text));
+    case NUMBERS.NO_SEPARATOR: return nowhere('There is no separator “1” in the text.');
+    case NUMBERS.TEXT_TOO_LONG: return tooLong(text, mostOf(checksum), 'a text');
+    case NUMBERS.NO_CHECKSUM: return noChecksum(text, text.lastIndexOf('1'));
+    case NUMBERS.WRONG_CHECKSUM:
+      return nowhere(checksum ? `The ${CHECKSUM_NAMES[checksum]} checksum is wrong.` : 'The checksum is wrong.');
     default: return null;
   }
 };
@@ -205,13 +147,14 @@ const ofText = (calls, number, text, checksum) => {
 const ofSpelling = (calls, number, text) => {
   const { hrpLength, dataLength } = calls.lengths(text), place = hrpLength + dataLength, left = (5 * dataLength) % 8;
   const who = `${at(text, place)} the last one before the checksum,`;
-  const why = number === 44 ? `is one too many: ${left} bits stand behind the last whole byte, and at most four may.`
+  const why = number === NUMBERS.PADDING_TOO_LONG
+    ? `is one too many: ${left} bits stand behind the last whole byte, and at most four may.`
     : 'has bits behind the last whole byte that are not zero.';
   return { place, sentence: `${who} ${why}` };
 };
 
 const ofStrict = (calls, number, text, checksum) =>
-  ([44, 45].includes(number) ? ofSpelling(calls, number, text) : ofText(calls, number, text, checksum));
+  ([NUMBERS.PADDING_TOO_LONG, NUMBERS.PADDING_NOT_ZERO].includes(number) ? ofSpelling(calls, number, text) : ofText(calls, number, text, checksum));
 
 // ---- segwit addresses
 
@@ -225,15 +168,15 @@ const programOf = (calls, text) => {
 const lengthOfProgram = (number, bytes) => {
   const has = `The program has ${counted(bytes, 'byte', 'bytes')}`;
   switch (number) {
-    case 46: return nowhere(`${has}; it has at least 2.`);
-    case 47: return nowhere(`${has}; it has at most 40.`);
+    case NUMBERS.PROGRAM_TOO_SHORT: return nowhere(`${has}; it has at least 2.`);
+    case NUMBERS.PROGRAM_TOO_LONG: return nowhere(`${has}; it has at most ${C.BECH32_MAX_SEGWIT_PROGRAM}.`);
     default: return nowhere(`${has}; in version 0 it has 20 or 32.`);
   }
 };
 
 const ofPadding = (number, text, { left, last: place }) => {
   const who = `${at(text, place)} the last one before the checksum,`;
-  const sentence = number === 44
+  const sentence = number === NUMBERS.PADDING_TOO_LONG
     ? `${who} is one too many: ${left} bits stand behind the last whole byte of the program, and at most four may.`
     : `${who} has bits behind the last whole byte of the program that are not zero.`;
   return { place, sentence };
@@ -242,21 +185,22 @@ const ofPadding = (number, text, { left, last: place }) => {
 const ofAddress = (calls, number, text) => {
   const place = text.lastIndexOf('1') + 1, version = ALPHABET.indexOf(lower(text.charAt(place)));
   switch (number) {
-    case 33: {
+    case NUMBERS.WRONG_CHECKSUM: {
       const name = CHECKSUM_NAMES[version === 0 ? 1 : 2];
       return nowhere(`The checksum is wrong: an address of version ${version} has a ${name} checksum.`);
     }
-    case 41: return tooLong(text, 90, 'an address');
-    case 42: {
+    case NUMBERS.ADDRESS_TOO_LONG: return tooLong(text, C.BECH32_MAX_SEGWIT_TEXT, 'an address');
+    case NUMBERS.NO_DATA: {
       const sentence = 'No witness version stands between the last “1” and the checksum.';
       return { place: place - 1, sentence };
     }
-    case 43: {
+    case NUMBERS.BAD_VERSION: {
       const sentence = `${at(text, place)} is the witness version ${version}; versions are from 0 to 16.`;
       return { place, sentence };
     }
-    case 44: case 45: return ofPadding(number, text, programOf(calls, text));
-    case 46: case 47: case 48: return lengthOfProgram(number, programOf(calls, text).bytes);
+    case NUMBERS.PADDING_TOO_LONG: case NUMBERS.PADDING_NOT_ZERO: return ofPadding(number, text, programOf(calls, text));
+    case NUMBERS.PROGRAM_TOO_SHORT: case NUMBERS.PROGRAM_TOO_LONG: case NUMBERS.PROGRAM_NOT_V0:
+      return lengthOfProgram(number, programOf(calls, text).bytes);
     default: return ofText(calls, number, text);
   }
 };
@@ -265,12 +209,12 @@ const ofAddress = (calls, number, text) => {
 
 // The place is that of a character at fault.
 const ofDescriptor = (number, text, at) => {
-  if (number === 80) {
+  if (number === NUMBERS.NOT_IN_DESCRIPTOR) {
     const { place, character } = placed(text)[at];
     const said = `Character ${grouped(at + 1)}, ${shown(character)}, may not stand in a descriptor, or not in its checksum.`;
     return { place, sentence: said };
   }
-  return number === 33 ? nowhere('The checksum of the descriptor is wrong.') : null;
+  return number === NUMBERS.WRONG_CHECKSUM ? nowhere('The checksum of the descriptor is wrong.') : null;
 };
 
 // ---- confidential addresses of Liquid
@@ -280,11 +224,13 @@ const LIQUID_CHECKSUM = 12;
 const ofLiquid = (calls, number, text) => {
   const place = text.lastIndexOf('1') + 1, version = ALPHABET.indexOf(lower(text.charAt(place)));
   switch (number) {
-    case 32: return nowhere(`Behind the last “1” stand ${counted(text.length - place, 'character', 'characters')}; the checksum alone has twelve.`);
-    case 33: return nowhere('The Blech32 checksum is wrong.');
-    case 42: case 43: return ofAddress(calls, number, text);
-    case 44: case 45: return { place: text.length - LIQUID_CHECKSUM - 1, sentence: SENTENCES[number] };
-    case 70: {
+    case NUMBERS.NO_CHECKSUM:
+      return nowhere(`Behind the last “1” stand ${counted(text.length - place, 'character', 'characters')}; the checksum alone has twelve.`);
+    case NUMBERS.WRONG_CHECKSUM: return nowhere('The Blech32 checksum is wrong.');
+    case NUMBERS.NO_DATA: case NUMBERS.BAD_VERSION: return ofAddress(calls, number, text);
+    case NUMBERS.PADDING_TOO_LONG: case NUMBERS.PADDING_NOT_ZERO:
+      return { place: text.length - LIQUID_CHECKSUM - 1, sentence: SENTENCES[number] };
+    case NUMBERS.UNSUPPORTED_VERSION: {
       const sentence = `${at(text, place)} is the witness version ${version}; of confidential addresses only version 0 is read.`;
       return { place, sentence };
     }
@@ -318,10 +264,12 @@ const badLongLength = (text) => badShareLength(text, 'from 125 to 127 where it i
 
 const ofCodex32 = (calls, number, text, ofLength = badLength) => {
   switch (number) {
-    case 81: return notMs(text);
-    case 82: return ofLength(text);
-    case 83: return { place: 3, sentence: `${at(text, 3)} is no threshold, which is 0 or a digit from 2 to 9.` };
-    case 84: return { place: 8, sentence: `${at(text, 8)} is no share index of the threshold 0, which is s.` };
+    case NUMBERS.NOT_MS: return notMs(text);
+    case NUMBERS.BAD_LENGTH: return ofLength(text);
+    case NUMBERS.BAD_THRESHOLD:
+      return { place: 3, sentence: `${at(text, 3)} is no threshold, which is 0 or a digit from 2 to 9.` };
+    case NUMBERS.BAD_SHARE_INDEX:
+      return { place: 8, sentence: `${at(text, 8)} is no share index of the threshold 0, which is s.` };
     default: return ofText(calls, number, text);
   }
 };
@@ -341,14 +289,15 @@ const leftOver = (text) => {
 };
 
 // Of a text that is a Uint8Array no string is made, and no character is shown: the place alone is told.
-const PLACES = { 83: 3, 84: 8 };
+const PLACES = { [NUMBERS.BAD_THRESHOLD]: 3, [NUMBERS.BAD_SHARE_INDEX]: 8 };
+const AT_A_CHARACTER = [NUMBERS.HRP_NOT_ASCII, NUMBERS.HRP_INVALID, NUMBERS.INVALID_CHARACTER, NUMBERS.MIXED_CASE];
 const ofBytes = (calls, number, text) => {
-  const place = [13, 14, 21, 22].includes(number) ? calls.fault(text) : PLACES[number] ?? null;
+  const place = AT_A_CHARACTER.includes(number) ? calls.fault(text) : PLACES[number] ?? null;
   return { place, sentence: SENTENCES[number] };
 };
 
 const ofShare = (calls, number, text) => {
-  if (number === 87) return leftOver(text);
+  if (number === NUMBERS.BITS_LEFT_OVER) return leftOver(text);
   if (typeof text !== 'string') return ofBytes(calls, number, text);
   return ofCodex32(calls, number, text, badShareLength);
 };
@@ -402,12 +351,13 @@ const ofOne = (calls, number, texts) => {
 const ofSet = (calls, number, texts, shareIndex) => {
   const parts = texts.map(partsOf);
   switch (number) {
-    case 61: return tooFew(parts, texts);
-    case 62: return otherSet(parts);
-    case 63: return indexTwice(parts);
-    case 64: return nowhere('The strings contradict each other: at least one of them is wrong, or is of another secret.');
-    case 86: return noShareIndex(shareIndex);
-    default: return ofOne(calls, number, texts) ?? (number === 84 ? noneBeside(shareIndex) : null);
+    case NUMBERS.TOO_FEW_SHARES: return tooFew(parts, texts);
+    case NUMBERS.OTHER_SET: return otherSet(parts);
+    case NUMBERS.INDEX_TWICE: return indexTwice(parts);
+    case NUMBERS.CONTRADICTION:
+      return nowhere('The strings contradict each other: at least one of them is wrong, or is of another secret.');
+    case NUMBERS.NO_SHARE_INDEX: return noShareIndex(shareIndex);
+    default: return ofOne(calls, number, texts) ?? (number === NUMBERS.BAD_SHARE_INDEX ? noneBeside(shareIndex) : null);
   }
 };
 
@@ -428,13 +378,13 @@ const elementsOf = (bytes) => Math.ceil((8 * bytes) / GROUP);
 
 // The fault of a human-readable part, in a text that begins with it. There letters of both cases are told first.
 const ofPart = (calls, number, hrp) => {
-  const isAsked = [13, 14, 15].includes(number);
-  const place = isAsked ? calls.fault(`${number === 15 ? hrp : asciiLower(hrp)}1qqqqqq`) : null;
+  const isAsked = [NUMBERS.HRP_NOT_ASCII, NUMBERS.HRP_INVALID, NUMBERS.HRP_MIXED_CASE].includes(number);
+  const place = isAsked ? calls.fault(`${number === NUMBERS.HRP_MIXED_CASE ? hrp : asciiLower(hrp)}1qqqqqq`) : null;
   return ofHrp(number, hrp, place);
 };
 
 const ofElements = (calls, number, hrp, count, checksum) => {
-  if (number !== 51) return ofPart(calls, number, hrp);
+  if (number !== NUMBERS.ENCODED_TOO_LONG) return ofPart(calls, number, hrp);
   const length = encodedLength(hrp, count);
   return nowhere(`The text would have ${grouped(length)} characters; a text has at most ${grouped(mostOf(checksum))}.`);
 };
@@ -442,24 +392,25 @@ const ofElements = (calls, number, hrp, count, checksum) => {
 const ofEncoding = (calls, number, hrp, bytes, checksum) => ofElements(calls, number, hrp, elementsOf(bytes.length), checksum);
 
 const ofElementsEncoding = (calls, number, hrp, elements, place, checksum) => {
-  if (number !== 67) return ofElements(calls, number, hrp, elements.length, checksum);
+  if (number !== NUMBERS.BAD_ELEMENT) return ofElements(calls, number, hrp, elements.length, checksum);
   return { place, sentence: `The element at the place ${place} is ${elements[place]}; elements are from 0 to 31.` };
 };
 
 const ofAddressEncoding = (calls, number, hrp, version, program) => {
   switch (number) {
-    case 46: case 47: case 48: return lengthOfProgram(number, program.length);
-    case 52: return nowhere(`The witness version is ${version}; versions are from 0 to 16.`);
-    case 53: {
+    case NUMBERS.PROGRAM_TOO_SHORT: case NUMBERS.PROGRAM_TOO_LONG: case NUMBERS.PROGRAM_NOT_V0:
+      return lengthOfProgram(number, program.length);
+    case NUMBERS.ENCODED_BAD_VERSION: return nowhere(`The witness version is ${version}; versions are from 0 to 16.`);
+    case NUMBERS.ENCODED_ADDRESS_TOO_LONG: {
       const length = encodedLength(hrp, 1 + elementsOf(program.length));
-      return nowhere(`The address would have ${grouped(length)} characters; an address has at most 90.`);
+      return nowhere(`The address would have ${grouped(length)} characters; an address has at most ${C.BECH32_MAX_SEGWIT_TEXT}.`);
     }
     default: return ofPart(calls, number, hrp);
   }
 };
 
 const ofLiquidEncoding = (calls, number, hrp, version, program) => {
-  if (number !== 70) return ofAddressEncoding(calls, number, hrp, version, program);
+  if (number !== NUMBERS.UNSUPPORTED_VERSION) return ofAddressEncoding(calls, number, hrp, version, program);
   return nowhere(`The witness version is ${version}; of confidential addresses only version 0 is written.`);
 };
 
@@ -474,11 +425,12 @@ const ofIdentifier = (identifier) => {
 
 const ofStringEncoding = (number, threshold, identifier, shareIndex, { length }) => {
   switch (number) {
-    case 55: return nowhere(`Of ${counted(length, 'byte', 'bytes')} there is no codex32 string; it has from 16 to 44, or 63 or 64.`);
-    case 83: return nowhere(`The threshold is ${threshold}; it is 0, or from 2 to 9.`);
-    case 84: return nowhere(`The share index is ${shown(shareIndex)}; with the threshold 0 it is “s”.`);
-    case 85: return ofIdentifier(identifier);
-    case 86: return noShareIndex(shareIndex);
+    case NUMBERS.BAD_SIZE:
+      return nowhere(`Of ${counted(length, 'byte', 'bytes')} there is no codex32 string; it has from 16 to 44, or 63 or 64.`);
+    case NUMBERS.BAD_THRESHOLD: return nowhere(`The threshold is ${threshold}; it is 0, or from 2 to 9.`);
+    case NUMBERS.BAD_SHARE_INDEX: return nowhere(`The share index is ${shown(shareIndex)}; with the threshold 0 it is “s”.`);
+    case NUMBERS.BAD_IDENTIFIER: return ofIdentifier(identifier);
+    case NUMBERS.NO_SHARE_INDEX: return noShareIndex(shareIndex);
     default: return null;
   }
 };
@@ -495,19 +447,20 @@ const faultOfPayload = (calls, payload) => {
 };
 
 const OF_A_PAYLOAD = {
-  21: 'A character of the payload may not stand there.', 22: 'The payload has letters of both cases.',
+  [NUMBERS.INVALID_CHARACTER]: 'A character of the payload may not stand there.',
+  [NUMBERS.MIXED_CASE]: 'The payload has letters of both cases.',
 };
 
 const ofPayload = (calls, number, payload) => {
   const placeOfFault = () => faultOfPayload(calls, payload);
   if (typeof payload !== 'string' && number in OF_A_PAYLOAD) return { place: placeOfFault(), sentence: OF_A_PAYLOAD[number] };
   switch (number) {
-    case 21: {
+    case NUMBERS.INVALID_CHARACTER: {
       const place = placeOfFault();
       return { place, sentence: `${at(payload, place)} may not stand in a payload: letters and digits may, but not 1, b, i and o.` };
     }
-    case 22: return cases(payload, placeOfFault());
-    case 55: {
+    case NUMBERS.MIXED_CASE: return cases(payload, placeOfFault());
+    case NUMBERS.BAD_SIZE: {
       const length = typeof payload === 'string' ? Array.from(payload).length : payload.length;
       const has = counted(length, 'character', 'characters');
       return nowhere(`The payload has ${has}; it has as many as 16 to 44 bytes have, from 26 to 71, or as 63 or 64 have, 101 or 103.`);
@@ -520,15 +473,15 @@ const MOST_SPLIT = 31;
 
 const ofSplitting = (number, threshold, identifier, { secret, count, random }) => {
   switch (number) {
-    case 65: {
+    case NUMBERS.BAD_COUNT: {
       const has = count === 1 ? 'There is one share' : `There are ${grouped(count)} shares`;
       return nowhere(`${has}; with the threshold ${threshold} there are from ${threshold} to ${MOST_SPLIT}.`);
     }
-    case 66: {
+    case NUMBERS.BAD_RANDOM: {
       const has = random.length === 1 ? 'There is one random byte' : `There are ${grouped(random.length)} random bytes`;
       return nowhere(`${has}; one is taken for each character that is drawn, ${(threshold - 1) * elementsOf(secret.length)}.`);
     }
-    case 84: return nowhere('The threshold is 0; a secret that is shared has one from 2 to 9.');
+    case NUMBERS.BAD_SHARE_INDEX: return nowhere('The threshold is 0; a secret that is shared has one from 2 to 9.');
     default: return ofStringEncoding(number, threshold, identifier, null, secret);
   }
 };

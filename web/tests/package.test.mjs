@@ -110,18 +110,6 @@ test('what it exports is what its types name', async () => {
   const named = [...types.matchAll(/^export (?:class|const|function) (\w+)/gm)].map(([, it]) => it);
   const exported = Object.keys(await import('../out/package/index.js'));
   assert.deepEqual(exported.sort(), named.sort());
-  const codes = [...types.slice(0, types.indexOf('class')).matchAll(/'([A-Z0-9_]+)'/g)].map(([, it]) => it);
-  const { CODES } = await import('../out/package/reasons.js');
-  assert.deepEqual(Object.values(CODES).sort(), codes.sort());
-  for (const code of codes) assert.ok(readme.includes(`\`${code}\``), code);
-});
-
-test('the codes are those of the headers', () => {
-  const headers = ['bech32', 'codex32'].map((it) => fs.readFileSync(path.join(WEB, '..', 'include', `${it}.h`), 'utf8')).join('');
-  const numbers = new Map([...headers.matchAll(/#define (?:BECH32|CODEX32)_([A-Z0-9_]+) +(\d+)u/g)].map(([, it, number]) => [it, Number(number)]));
-  return import('../out/package/reasons.js').then(({ CODES }) => {
-    for (const [number, code] of Object.entries(CODES)) assert.equal(numbers.get(code), Number(number), code);
-  });
 });
 
 test('putting it together twice gives the same bytes', () => inFolder((folder) => {

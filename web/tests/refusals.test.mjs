@@ -228,7 +228,7 @@ const HAS_FAULT = {
 const NO_PLACE = new Set([23, 33, 46, 47, 48]);
 
 test('each refusal of the table is among these', async () => {
-  const { CODES } = await import('../out/package/reasons.js');
+  const { CODES } = await import('../out/package/refusals.js');
   // Two are of rows of a column alone.
   const { numbers } = segwit.decodeMany([null, 'bc1qw508d6qejxtdg4y5r3zarvary0c5xw7kv8f3t4'], 'tb');
   assert.deepEqual(Array.from(numbers, (it) => CODES[it]), ['NULL_ROW', 'OTHER_HRP']);

@@ -1,4 +1,4 @@
-// Written by tools/refusals.
+// Made by tools/make from docs/refusals.tsv; do not edit.
 
 package codex32
 
@@ -41,28 +41,28 @@ const (
 	NoNearest Number = 34
 
 	// BadSize: there are neither 16 to 44 bytes nor 63 or 64.
-	BadSize Number = 55
-
-	// TooFewShares: there are fewer shares than the threshold.
-	TooFewShares Number = 61
-
-	// OtherSet: a share has another threshold, identifier or length than the first.
-	OtherSet Number = 62
-
-	// IndexTwice: two shares have one index.
-	IndexTwice Number = 63
-
-	// Contradiction: the shares contradict each other.
-	Contradiction Number = 64
-
-	// BadCount: there are fewer shares than the threshold, or more than 31.
-	BadCount Number = 65
+	BadSize Number = 56
 
 	// BadRandom: there are not as many random bytes as characters are drawn.
 	BadRandom Number = 66
 
 	// EqualRandom: the random bytes are all equal.
 	EqualRandom Number = 68
+
+	// TooFewShares: there are fewer shares than the threshold.
+	TooFewShares Number = 74
+
+	// OtherSet: a share has another threshold, identifier or length than the first.
+	OtherSet Number = 75
+
+	// IndexTwice: two shares have one index.
+	IndexTwice Number = 76
+
+	// Contradiction: the shares contradict each other.
+	Contradiction Number = 77
+
+	// BadCount: there are fewer shares than the threshold, or more than 31.
+	BadCount Number = 78
 
 	// NotMs: the human-readable part is not `ms`.
 	NotMs Number = 81

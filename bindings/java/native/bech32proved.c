@@ -77,8 +77,6 @@ NATIVE(jint, version)(JNIEnv *env, jclass self, jboolean is_codex32) {
     return (jint)(is_codex32 ? codex32_version() : bech32_version());
 }
 
-/* Written by tools/functions. */
-
 /* Into `out`: text_length. */
 NATIVE(jint, encode)
 (JNIEnv *env, jclass self, jint checksum, jbyteArray hrp, jbyteArray bytes, jbyteArray text, jintArray out) {
@@ -235,8 +233,6 @@ NATIVE(jint, split)
     codex32_wipe_stack();
     return (jint)number;
 }
-
-/* By hand. */
 
 /* By either checksum where `checksum` is 0, else strictly, or to elements. */
 NATIVE(jint, decode)

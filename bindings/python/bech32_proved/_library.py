@@ -8,7 +8,8 @@ from concurrent import futures
 from pathlib import Path
 from typing import Any, Iterable, List, NoReturn, Optional, Tuple, Type, TypeVar, Union, cast
 
-from . import errors
+from . import _declared, errors
+from ._refused import begins_character
 
 Octets = Union[bytes, bytearray, memoryview]
 Text = Union[str, bytearray]
@@ -18,30 +19,25 @@ _Made = TypeVar("_Made", str, bytes, bytearray)
 _FOLDER = Path(__file__).resolve().parent
 
 # Sizes of buffers that are always large enough.
-MAX_TEXT = 1023
-MAX_HRP = 83
-MAX_BYTES = 634
-MAX_ELEMENTS = 1015
-MAX_LONG_TEXT = 7089
-MAX_LONG_BYTES = 4425
-MAX_LONG_ELEMENTS = 7081
-MAX_ADDRESS = 90
-MAX_PROGRAM = 40
-MAX_LISTED = 3
+MAX_TEXT, MAX_HRP = _declared.BECH32_MAX_TEXT, _declared.BECH32_MAX_HRP
+MAX_BYTES, MAX_ELEMENTS = _declared.BECH32_MAX_BYTES, _declared.BECH32_MAX_ELEMENTS
+MAX_LONG_TEXT = _declared.BECH32_MAX_LONG_TEXT
+MAX_LONG_BYTES, MAX_LONG_ELEMENTS = _declared.BECH32_MAX_LONG_BYTES, _declared.BECH32_MAX_LONG_ELEMENTS
+MAX_ADDRESS, MAX_PROGRAM = _declared.BECH32_MAX_SEGWIT_TEXT, _declared.BECH32_MAX_SEGWIT_PROGRAM
+MAX_LISTED = _declared.BECH32_MAX_LISTED
 
 # The largest number that the library takes for a size.
 MAX_SIZE = ctypes.c_size_t(-1).value
 
-_BYTES, _SIZE, _NUMBER = ctypes.c_char_p, ctypes.c_size_t, ctypes.c_uint32
-_SIZE_OUT, _NUMBER_OUT = ctypes.POINTER(_SIZE), ctypes.POINTER(_NUMBER)
-_IN = (_BYTES, _SIZE)
-_OUT = (_BYTES, _SIZE, _SIZE_OUT)
+_SIZE = ctypes.c_size_t
+
+# A column, as Arrow lays it out.
+Column = _declared.Column
 
 
-class Memory(ctypes.Structure):
+class Memory(_declared.Memory):
     """Memory that a function may use."""
 
-    _fields_ = [("start", ctypes.c_void_p), ("size", ctypes.c_size_t)]
     held: Any
     """What it is memory of."""
 
@@ -66,132 +62,69 @@ def _library(name: str) -> ctypes.CDLL:
         ) from e
 
 
-def _function(library: ctypes.CDLL, name: str, *arguments: Any) -> Any:
-    function = getattr(library, name)
-    function.restype = _NUMBER
-    function.argtypes = arguments
-    return function
-
-
 _BECH32 = _library("libbech32_c.so")
 _CODEX32 = _library("libcodex32_c.so")
 
-encode = _function(_BECH32, "bech32_encode", _NUMBER, *_IN, *_IN, *_OUT)
-decode = _function(_BECH32, "bech32_decode", *_IN, *_OUT, *_OUT)
-check = _function(_BECH32, "bech32_check", _NUMBER, *_IN, _SIZE_OUT, _SIZE_OUT)
-fault = _function(_BECH32, "bech32_fault", _NUMBER, *_IN, _SIZE_OUT)
-segwit_encode = _function(_BECH32, "bech32_segwit_encode", *_IN, _NUMBER, *_IN, *_OUT)
-segwit_decode = _function(_BECH32, "bech32_segwit_decode", *_IN, *_OUT, _NUMBER_OUT, *_OUT)
-correct = _function(
-    _BECH32,
-    "bech32_correct",
-    *(_NUMBER, *_IN, ctypes.POINTER(_SIZE), _SIZE),
-    *(ctypes.POINTER(_SIZE), _SIZE, _BYTES, _SIZE, _SIZE_OUT, *_OUT),
-)
-nearest = _function(
-    _BECH32,
-    "bech32_nearest",
-    *(_NUMBER, *_IN, ctypes.POINTER(_SIZE), _SIZE, _SIZE),
-    *(ctypes.POINTER(Memory), _BYTES, _SIZE, _SIZE_OUT),
-)
-near_edits = _function(
-    _BECH32,
-    "bech32_near_edits",
-    *(_NUMBER, *_IN, ctypes.POINTER(Memory), _BYTES, _SIZE),
-    *(ctypes.POINTER(_SIZE), _SIZE, _BYTES, _SIZE, _SIZE_OUT),
-)
-codex32_parse = _function(_CODEX32, "codex32_parse", *_IN, _NUMBER_OUT, _NUMBER_OUT, _SIZE_OUT)
-codex32_share = _function(
-    _CODEX32, "codex32_share", *_IN, _NUMBER_OUT, _BYTES, _NUMBER_OUT, *_OUT
-)
-codex32_encode = _function(_CODEX32, "codex32_encode", _NUMBER, *_IN, _NUMBER, *_IN, *_OUT)
-codex32_encode_payload = _function(
-    _CODEX32, "codex32_encode_payload", _NUMBER, *_IN, _NUMBER, *_IN, *_OUT
-)
-codex32_derive = _function(
-    _CODEX32, "codex32_derive", _NUMBER, *_IN, ctypes.POINTER(_SIZE), _SIZE, *_OUT
-)
-codex32_split = _function(
-    _CODEX32, "codex32_split", _NUMBER, *_IN, *_IN, *_IN, _SIZE, *_OUT
-)
-codex32_recover = _function(
-    _CODEX32, "codex32_recover", *_IN, ctypes.POINTER(_SIZE), _SIZE, *_OUT
-)
-codex32_propose = _function(
-    _CODEX32, "codex32_propose", *_IN, ctypes.POINTER(Memory), *_OUT
-)
-codex32_propose_long = _function(
-    _CODEX32, "codex32_propose_long", *_IN, ctypes.POINTER(Memory), *_OUT
-)
-decode_strict = _function(_BECH32, "bech32_decode_strict", _NUMBER, *_IN, *_OUT, *_OUT)
-decode_elements = _function(_BECH32, "bech32_decode_elements", _NUMBER, *_IN, *_OUT, *_OUT)
-encode_elements = _function(
-    _BECH32, "bech32_encode_elements", _NUMBER, *_IN, *_IN, _SIZE_OUT, *_OUT
-)
+
+def _function(name: str) -> Any:
+    function = getattr(_BECH32 if name.startswith("bech32_") else _CODEX32, name)
+    function.restype, function.argtypes = ctypes.c_uint32, _declared.FUNCTIONS[name]
+    return function
+
+
+encode = _function("bech32_encode")
+decode = _function("bech32_decode")
+check = _function("bech32_check")
+fault = _function("bech32_fault")
+segwit_encode = _function("bech32_segwit_encode")
+segwit_decode = _function("bech32_segwit_decode")
+correct = _function("bech32_correct")
+nearest = _function("bech32_nearest")
+near_edits = _function("bech32_near_edits")
+codex32_parse = _function("codex32_parse")
+codex32_share = _function("codex32_share")
+codex32_encode = _function("codex32_encode")
+codex32_encode_payload = _function("codex32_encode_payload")
+codex32_derive = _function("codex32_derive")
+codex32_split = _function("codex32_split")
+codex32_recover = _function("codex32_recover")
+codex32_propose = _function("codex32_propose")
+codex32_propose_long = _function("codex32_propose_long")
+decode_strict = _function("bech32_decode_strict")
+decode_elements = _function("bech32_decode_elements")
+encode_elements = _function("bech32_encode_elements")
 
 # Those of Liquid's confidential addresses, and the sizes of buffers for them.
-MAX_LIQUID_TEXT, MAX_LIQUID_PROGRAM, LIQUID_KEY_LENGTH = 201, 32, 33
+MAX_LIQUID_TEXT, MAX_LIQUID_PROGRAM = _declared.BECH32_MAX_LIQUID_TEXT, _declared.BECH32_MAX_LIQUID_PROGRAM
+LIQUID_KEY_LENGTH = _declared.BECH32_LIQUID_KEY_LENGTH
 
-liquid_encode = _function(_BECH32, "bech32_liquid_encode", *_IN, _NUMBER, _BYTES, *_IN, *_OUT)
-liquid_decode = _function(_BECH32, "bech32_liquid_decode", *_IN, *_OUT, _NUMBER_OUT, _BYTES, *_OUT)
-liquid_nearest = _function(
-    _BECH32,
-    "bech32_liquid_nearest",
-    *(*_IN, ctypes.POINTER(_SIZE), _SIZE, _SIZE, ctypes.POINTER(Memory), *_OUT),
-)
+liquid_encode = _function("bech32_liquid_encode")
+liquid_decode = _function("bech32_liquid_decode")
+liquid_nearest = _function("bech32_liquid_nearest")
 
 # Those of descriptors: the characters of a checksum, and the most of a text that is mended by one edit, and by two.
-DESCRIPTOR_CHECKSUM, MAX_DESCRIPTOR, MAX_DESCRIPTOR_TWO = 8, 7500, 1400
+DESCRIPTOR_CHECKSUM = _declared.BECH32_DESCRIPTOR_CHECKSUM
+MAX_DESCRIPTOR, MAX_DESCRIPTOR_TWO = _declared.BECH32_MAX_DESCRIPTOR, _declared.BECH32_MAX_DESCRIPTOR_TWO
 
-descriptor_checksum = _function(_BECH32, "bech32_descriptor_checksum", *_IN, *_OUT, _SIZE_OUT)
-descriptor_check = _function(_BECH32, "bech32_descriptor_check", *_OUT)
-descriptor_mend = _function(
-    _BECH32,
-    "bech32_descriptor_mend",
-    *(*_IN, _SIZE, ctypes.POINTER(Memory), *_OUT, _SIZE, *_OUT),
-)
-
-descriptor_mend_two = _function(
-    _BECH32,
-    "bech32_descriptor_mend_two",
-    *(*_IN, ctypes.POINTER(Memory), ctypes.POINTER(_SIZE), _SIZE, *_OUT),
-)
+descriptor_checksum = _function("bech32_descriptor_checksum")
+descriptor_check = _function("bech32_descriptor_check")
+descriptor_mend = _function("bech32_descriptor_mend")
+descriptor_mend_two = _function("bech32_descriptor_mend_two")
 
 # These suffice for a call: bytes that are lent, and room for this many addresses.
-SUGGEST_MEMORY, SUGGESTIONS = 196_608, 48
+SUGGEST_MEMORY, SUGGESTIONS = _declared.BECH32_SUGGEST_MEMORY, _declared.BECH32_SUGGESTIONS
 
-suggest = _function(
-    _BECH32,
-    "bech32_suggest",
-    *(*_IN, *_IN, ctypes.POINTER(Memory), *_OUT, _SIZE, *_OUT),
-)
-
-
-class Column(ctypes.Structure):
-    """A column, as Arrow lays it out."""
-
-    _fields_ = [
-        *(("bytes", ctypes.c_void_p), ("bytes_length", _SIZE), ("offsets", ctypes.c_void_p), ("offsets_length", _SIZE)),
-        *(("validity", ctypes.c_void_p), ("validity_length", _SIZE), ("rows", _SIZE), ("width", _SIZE), ("layout", _NUMBER)),
-    ]
-
+suggest = _function("bech32_suggest")
 
 # How a column is laid out.
-OFFSETS_32, OFFSETS_64, FIXED, FIXED_ZERO = 1, 2, 3, 4
+OFFSETS_32, OFFSETS_64 = _declared.BECH32_OFFSETS_32, _declared.BECH32_OFFSETS_64
+FIXED, FIXED_ZERO = _declared.BECH32_FIXED, _declared.BECH32_FIXED_ZERO
 
-check_many = _function(_BECH32, "bech32_check_many", _NUMBER, ctypes.POINTER(Column), _SIZE, *_IN)
-segwit_decode_many = _function(
-    _BECH32,
-    "bech32_segwit_decode_many",
-    *(ctypes.POINTER(Column), _SIZE, *_IN, *_IN, *_IN, *_IN, ctypes.POINTER(ctypes.c_int32), _SIZE, *_OUT),
-)
-segwit_encode_many = _function(
-    _BECH32,
-    "bech32_segwit_encode_many",
-    *(*_IN, *_IN, ctypes.POINTER(Column), _SIZE, *_IN, ctypes.POINTER(ctypes.c_int32), _SIZE, *_OUT),
-)
-validity_of = _function(_BECH32, "bech32_validity_of", *_IN, *_OUT)
-message = _function(_BECH32, "bech32_message", _NUMBER, *_OUT)
+check_many = _function("bech32_check_many")
+segwit_decode_many = _function("bech32_segwit_decode_many")
+segwit_encode_many = _function("bech32_segwit_encode_many")
+validity_of = _function("bech32_validity_of")
+message = _function("bech32_message")
 
 
 def _of_arrow(name: str, result: Any, *arguments: Any) -> Any:
@@ -395,7 +328,7 @@ def _place(data: Union[bytes, bytearray]) -> Optional[int]:
     number = fault(1, *given(data), ctypes.byref(place))
     if number not in errors.OF_A_CHARACTER:
         return None
-    return sum(errors.begins_character(byte) for byte in data[: place.value])
+    return sum(begins_character(byte) for byte in data[: place.value])
 
 
 def refuse(

@@ -37,7 +37,7 @@ import ctypes
 import secrets
 from typing import Any, Iterable, List, NamedTuple, NoReturn, Optional, Tuple, Type, Union, overload
 
-from . import _library
+from . import _declared, _library
 from ._library import MAX_SIZE, Buffer, Copied, Lent, Octets, Text, copied_octets, copied_text, given, in_case_of
 from ._library import listed, refuse, secretly, string, utf8, whole
 from .texts import ALPHABET
@@ -50,11 +50,11 @@ _COMMON = slice(3, 8)
 
 # The most characters of a string, and of one of either length; the most bytes of one; the most strings of a set, and
 # the most shares that a secret is split into.
-_MAX_TEXT = 93
-_MAX_LONG_TEXT = 127
-_MAX_BYTES = 64
-_MAX_SHARES = 32
-_MAX_SPLIT = 31
+_MAX_TEXT = _declared.CODEX32_MAX_TEXT
+_MAX_LONG_TEXT = _declared.CODEX32_TEXT_SIZE
+_MAX_BYTES = _declared.CODEX32_BYTES_SIZE
+_MAX_SHARES = _declared.CODEX32_MAX_SHARES
+_MAX_SPLIT = _declared.CODEX32_MAX_SPLIT
 
 _CHARACTERS = ALPHABET.encode("ascii")
 
@@ -62,34 +62,34 @@ _CHARACTERS = ALPHABET.encode("ascii")
 _ANY = b"qqqq"
 
 # A text is not UTF-8: a `str` is not refused so, but as `NotUnicode`.
-_NOT_UTF8 = 2
+_NOT_UTF8 = _declared.CODEX32_NOT_UTF8
 _NO_TEXT = "the text is not UTF-8"
 
 # A character of a payload is not of the alphabet, or its letters have both cases; and what is said of these.
-_INVALID_CHARACTER = 21
-_MIXED_CASE = 22
+_INVALID_CHARACTER = _declared.CODEX32_INVALID_CHARACTER
+_MIXED_CASE = _declared.CODEX32_MIXED_CASE
 _OF_A_PAYLOAD = {
     _INVALID_CHARACTER: "a character of the payload is not of the alphabet",
     _MIXED_CASE: "the payload has letters of both cases",
 }
 
 # There is no nearest text.
-_NO_NEAREST = 34
+_NO_NEAREST = _declared.CODEX32_NO_NEAREST
 
 # A share is of another set than the first, or an index stands twice.
-_OTHER_SET = 62
-_INDEX_TWICE = 63
+_OTHER_SET = _declared.CODEX32_OTHER_SET
+_INDEX_TWICE = _declared.CODEX32_INDEX_TWICE
 
 # There are not as many random bytes as are drawn.
-_BAD_RANDOM = 66
+_BAD_RANDOM = _declared.CODEX32_BAD_RANDOM
 
 # What is given is no threshold, or no share index.
-_BAD_THRESHOLD = 83
-_NO_SHARE_INDEX = 86
+_BAD_THRESHOLD = _declared.CODEX32_BAD_THRESHOLD
+_NO_SHARE_INDEX = _declared.CODEX32_NO_SHARE_INDEX
 
 # Too many bits are left over, or a buffer is too small: the string itself is accepted.
-_BITS_LEFT_OVER = 87
-_NO_ROOM = 92
+_BITS_LEFT_OVER = _declared.CODEX32_BITS_LEFT_OVER
+_NO_ROOM = _declared.CODEX32_NO_ROOM
 
 
 class Share(NamedTuple):
@@ -130,9 +130,7 @@ class ShareWithBytes(NamedTuple):
 def parse(text: Text) -> Share:
     """Reads a codex32 string of 48 to 93 characters.
 
-    Raises the first of: `InvalidCharacter`, `MixedCase`, `NoSeparator`, `HrpEmpty`, `HrpTooLong`,
-    `HrpNotAscii`, `HrpInvalid`, `HrpMixedCase`; `BadLength`; `NotMs`; `WrongChecksum`; `BadThreshold`;
-    `BadShareIndex`.
+    Raises the first that applies of the refusals that `bech32_proved.errors` lists for this function.
     """
     data = copied_text(text, "text")
     threshold, share_index, length = ctypes.c_uint32(), ctypes.c_uint32(), ctypes.c_size_t()
@@ -151,9 +149,7 @@ def share(text: Text, *, into: Union[Type[bytes], Type[bytearray]] = bytes) -> S
     """Reads a string of either length, 48 to 93 characters or 125 to 127: a share, or the secret at the index
     `s`. Its bytes are `bytes`, or a `bytearray` with `into=bytearray`.
 
-    Raises the first of: `InvalidCharacter`, `MixedCase`, `NoSeparator`, `HrpEmpty`, `HrpTooLong`,
-    `HrpNotAscii`, `HrpInvalid`, `HrpMixedCase`; `BadLength`; `NotMs`; `WrongChecksum`; `BadThreshold`;
-    `BadShareIndex`; `BitsLeftOver`.
+    Raises the first that applies of the refusals that `bech32_proved.errors` lists for this function.
     """
     _tested(into, bytes)
     data, held = copied_text(text, "text"), Buffer(_MAX_BYTES)
@@ -185,7 +181,7 @@ def encode(threshold: int, identifier: str, share_index: str, data: Octets, *, i
         >>> encode(0, "test", "s", bytes([0x31] * 16))[:16]
         'ms10testsxycnzvf'
 
-    Raises the first of: `BadThreshold`, `BadIdentifier`, `NoShareIndex`, `BadShareIndex`, `BadSize`.
+    Raises the first that applies of the refusals that `bech32_proved.errors` lists for this function.
     """
     _tested(into, str)
     header = _header(threshold, identifier, share_index)
@@ -219,8 +215,7 @@ def encode_payload(
 
     The text of what is raised for a character, and its place, are those of the payload.
 
-    Raises the first of: `BadThreshold`, `BadIdentifier`, `NoShareIndex`, `BadShareIndex`;
-    `InvalidCharacter`, `MixedCase`, `BadSize`.
+    Raises the first that applies of the refusals that `bech32_proved.errors` lists for this function.
     """
     _tested(into, str)
     header = _header(threshold, identifier, share_index)
@@ -257,10 +252,7 @@ def derive(texts: Iterable[Text], share_index: str, *, into: Any = str) -> Any:
     The text of what is raised is that of the first text that is refused, is of another set than the first, or
     has an index that stands before it.
 
-    Raises the first of: `NoShareIndex`; `InvalidCharacter`, `MixedCase`, `NoSeparator`, `HrpEmpty`,
-    `HrpTooLong`, `HrpNotAscii`, `HrpInvalid`, `HrpMixedCase`; `BadLength`; `NotMs`; `WrongChecksum`;
-    `BadThreshold`; `BadShareIndex`; `OtherSet`, `IndexTwice`, `BadShareIndex`, `TooFewShares`,
-    `Contradiction`.
+    Raises the first that applies of the refusals that `bech32_proved.errors` lists for this function.
     """
     _tested(into, str)
     index, shares = _character(share_index), _texts(texts)
@@ -308,8 +300,7 @@ def split(
         >>> [text[:9] for text in shares]
         ['ms12casha', 'ms12cashc', 'ms12cashd']
 
-    Raises the first of: `BadThreshold`, `BadIdentifier`, `BadShareIndex`, `BadSize`, `BadCount`,
-    `BadRandom`, `EqualRandom`.
+    Raises the first that applies of the refusals that `bech32_proved.errors` lists for this function.
     """
     _tested(into, str)
     number, named = _threshold(threshold), _ANY if identifier is None else _named(identifier)
@@ -350,9 +341,7 @@ def recover(texts: Iterable[Text], *, into: Any = bytes) -> Any:
 
     The text of what is raised is as of `derive`.
 
-    Raises the first of: `InvalidCharacter`, `MixedCase`, `NoSeparator`, `HrpEmpty`, `HrpTooLong`,
-    `HrpNotAscii`, `HrpInvalid`, `HrpMixedCase`; `BadLength`; `NotMs`; `WrongChecksum`; `BadThreshold`;
-    `BadShareIndex`; `OtherSet`, `IndexTwice`, `TooFewShares`, `Contradiction`; `BitsLeftOver`.
+    Raises the first that applies of the refusals that `bech32_proved.errors` lists for this function.
     """
     _tested(into, bytes)
     return _made_of(_texts(texts), (_library.codex32_recover,), Buffer(_MAX_BYTES), into)
@@ -374,8 +363,7 @@ def propose(text: Text, *, into: Any = str) -> Any:
     is a `str`, or with `into=bytearray` a `bytearray`. The time of a call, and which memory it reads, depend on the
     text and its errors.
 
-    Raises the first of: `InvalidCharacter`, `MixedCase`, `NoSeparator`, `HrpEmpty`, `HrpTooLong`,
-    `HrpNotAscii`, `HrpInvalid`, `HrpMixedCase`; `BadLength`; `NotMs`.
+    Raises the first that applies of the refusals that `bech32_proved.errors` lists for this function.
     """
     return _proposed(_library.codex32_propose, text, _MAX_TEXT, into)
 
@@ -388,8 +376,7 @@ def propose_long(text: Text, *, into: Any = str) -> Any:
     """Proposes the nearest text to a damaged long string, of 125 to 127 characters, within the bounds of `propose`
     and in the case of the damaged one. Returns None if there is none.
 
-    Raises the first of: `InvalidCharacter`, `MixedCase`, `NoSeparator`, `HrpEmpty`, `HrpTooLong`,
-    `HrpNotAscii`, `HrpInvalid`, `HrpMixedCase`; `BadLength`; `NotMs`.
+    Raises the first that applies of the refusals that `bech32_proved.errors` lists for this function.
     """
     return _proposed(_library.codex32_propose_long, text, _MAX_LONG_TEXT, into)
 
@@ -397,7 +384,7 @@ def propose_long(text: Text, *, into: Any = str) -> Any:
 def _proposed(function: Any, text: Text, room: int, into: Any) -> Any:
     _tested(into, str)
     data = copied_text(text, "text")
-    lent, proposed = Lent(16384 + 8 * len(data.octets)), Buffer(room)
+    lent, proposed = Lent(_declared.CODEX32_MEMORY(len(data.octets))), Buffer(room)
     try:
         number = secretly(function, *data.given, ctypes.byref(lent.memory), *proposed.out)
         if number == _NO_NEAREST:

@@ -33,17 +33,17 @@ from typing import Any, Callable, List, NamedTuple, Optional, Tuple, Union
 
 import numpy as np
 
-from . import _arrow, _library
+from . import _arrow, _declared, _library
 from .segwit import part_of
 from .texts import Checksum
 
-NULL_ROW = 1
+NULL_ROW = _declared.BECH32_NULL_ROW
 """The row is null."""
 
-BAD_ROW = 4
+BAD_ROW = _declared.BECH32_BAD_NUMBER
 """The offsets of the row, or its bit of validity, do not lie in the column."""
 
-OTHER_HRP = 49
+OTHER_HRP = _declared.BECH32_OTHER_HRP
 """The address has another human-readable part than is wanted."""
 
 Progress = Optional[Callable[[int], Any]]

@@ -17,25 +17,21 @@ import ctypes
 from enum import Enum
 from typing import Any, Callable, List, NamedTuple, NoReturn, Optional, Tuple
 
-from . import _library, errors
+from . import _declared, _library, errors
 from ._library import Copied, Lent, Text, given, secretly, whole
 
 # The lent memory does not suffice, and a buffer is too small.
-_NO_MEMORY = 91
-_NO_ROOM = 92
+_NO_MEMORY = _declared.BECH32_NO_MEMORY
+_NO_ROOM = _declared.BECH32_NO_ROOM
 
 # What stands for a character that is not ASCII: one that no descriptor has.
 _STRANGE = 0x7F
 
-# The texts that there is room for at first, the bytes that are lent, with as many more for each character, and the
-# factor by which they grow if they do not suffice.
-_LEAST_TEXTS, _LEAST_MEMORY, _OF_A_CHARACTER, _GROWTH = 8, 16384, 400, 8
+# The texts that there is room for at first, and the factor by which memory grows if it does not suffice.
+_LEAST_TEXTS, _GROWTH = 8, 8
 
 # The bytes that are lent at most, and that texts fill at most.
 MOST_MEMORY = 1 << 28
-
-# The bytes for two changed characters.
-_TWO_MEMORY, _TWO_OF_A_CHARACTER = 65536, 4608
 
 
 class Mistake(Enum):
@@ -94,7 +90,7 @@ class Mended(NamedTuple):
 def checksum(text: Text) -> str:
     """Computes the checksum of a descriptor without one, eight characters: `text`, `#` and these are the descriptor.
 
-    Raises the first of: `NotInDescriptor`.
+    Raises the first that applies of the refusals that `bech32_proved.errors` lists for this function.
     """
     data, made, place = _copied(text), ctypes.create_string_buffer(_library.DESCRIPTOR_CHECKSUM), ctypes.c_size_t()
     length = ctypes.c_size_t()
@@ -111,7 +107,7 @@ def checksum(text: Text) -> str:
 def check(text: Text) -> Text:
     """Tests the checksum of a descriptor, and returns the descriptor without it.
 
-    Raises the first of: `NoDescriptorChecksum`, `NotInDescriptor`, `WrongChecksum`.
+    Raises the first that applies of the refusals that `bech32_proved.errors` lists for this function.
     """
     data, place = _copied(text), ctypes.c_size_t()
     try:
@@ -186,13 +182,13 @@ class _Room:
     def count(self, data: Copied, changed: int) -> int:
         # How many texts one mistake makes. As many as fit are put.
         call, size = _library.descriptor_mend, min(self._length, _library.MAX_DESCRIPTOR)
-        return self._count(call, (*data.given, changed), _LEAST_MEMORY + _OF_A_CHARACTER * size, self._out)
+        return self._count(call, (*data.given, changed), _declared.BECH32_DESCRIPTOR_MEND_MEMORY(size), self._out)
 
     def count_two(self, data: Copied) -> int:
         # How many come from two changed characters. As many as fit are put.
         call, size = _library.descriptor_mend_two, min(self._length, _library.MAX_DESCRIPTOR_TWO)
         ctypes.memset(self._kinds, Mistake.CHANGED.value, len(self._kinds))
-        return self._count(call, data.given, _TWO_MEMORY + _TWO_OF_A_CHARACTER * size, self._out[2:])
+        return self._count(call, data.given, _declared.BECH32_DESCRIPTOR_TWO_MEMORY(size), self._out[2:])
 
     def _count(self, call: Any, given: Tuple[Any, ...], size: int, out: Tuple[Any, ...]) -> int:
         count = ctypes.c_size_t()

@@ -1,75 +1,54 @@
 """Why a call refuses what it is given. Each class is a `Refused`, which is a `ValueError`.
 
-A call names the first fault that applies, in the order that `bech32.h` and `codex32.h` state for it.
+A call names the first fault that applies. These raise the first of:
+
+- `encode`: HrpEmpty, HrpTooLong, HrpNotAscii, HrpInvalid, HrpMixedCase, EncodedTooLong.
+- `decode`: InvalidCharacter, MixedCase, NoSeparator, HrpEmpty, HrpTooLong, HrpNotAscii, HrpInvalid,
+  HrpMixedCase; TextTooLong, NoChecksum, WrongChecksum.
+- `decode_strict`: InvalidCharacter, MixedCase, NoSeparator, HrpEmpty, HrpTooLong, HrpNotAscii, HrpInvalid,
+  HrpMixedCase; TextTooLong, NoChecksum, WrongChecksum; PaddingTooLong, PaddingNotZero.
+- `decode_elements`: InvalidCharacter, MixedCase, NoSeparator, HrpEmpty, HrpTooLong, HrpNotAscii, HrpInvalid,
+  HrpMixedCase; TextTooLong, NoChecksum, WrongChecksum.
+- `encode_elements`: HrpEmpty, HrpTooLong, HrpNotAscii, HrpInvalid, HrpMixedCase, EncodedTooLong, BadElement.
+- `check`: InvalidCharacter, MixedCase, NoSeparator, HrpEmpty, HrpTooLong, HrpNotAscii, HrpInvalid,
+  HrpMixedCase; TextTooLong, NoChecksum, WrongChecksum.
+- `segwit.encode`: HrpEmpty, HrpTooLong, HrpNotAscii, HrpInvalid, HrpMixedCase, BadVersion, ProgramTooShort,
+  ProgramTooLong, ProgramNotV0, EncodedAddressTooLong.
+- `segwit.decode`: AddressTooLong; InvalidCharacter, MixedCase, NoSeparator, HrpEmpty, HrpTooLong,
+  HrpNotAscii, HrpInvalid, HrpMixedCase; NoData, BadVersion; NoChecksum, WrongChecksum; NoData,
+  PaddingTooLong, PaddingNotZero, ProgramTooShort, ProgramTooLong, ProgramNotV0.
+- `liquid.encode`: HrpEmpty, HrpTooLong, HrpNotAscii, HrpInvalid, HrpMixedCase, BadVersion,
+  UnsupportedVersion, ProgramTooShort, ProgramTooLong, ProgramNotV0.
+- `liquid.decode`: InvalidCharacter, MixedCase, NoSeparator, HrpEmpty, HrpTooLong, HrpNotAscii, HrpInvalid,
+  HrpMixedCase; NoData, BadVersion, UnsupportedVersion; TextTooLong, NoChecksum, WrongChecksum; NoData,
+  PaddingTooLong, PaddingNotZero; NoBlindingKey; ProgramTooShort, ProgramTooLong, ProgramNotV0.
+- `descriptor.checksum`: NotInDescriptor.
+- `descriptor.check`: NoDescriptorChecksum, NotInDescriptor, WrongChecksum.
+- `codex32.parse`: InvalidCharacter, MixedCase, NoSeparator, HrpEmpty, HrpTooLong, HrpNotAscii, HrpInvalid,
+  HrpMixedCase; BadLength; NotMs; WrongChecksum; BadThreshold; BadShareIndex.
+- `codex32.share`: InvalidCharacter, MixedCase, NoSeparator, HrpEmpty, HrpTooLong, HrpNotAscii, HrpInvalid,
+  HrpMixedCase; BadLength; NotMs; WrongChecksum; BadThreshold; BadShareIndex; BitsLeftOver.
+- `codex32.propose`: InvalidCharacter, MixedCase, NoSeparator, HrpEmpty, HrpTooLong, HrpNotAscii, HrpInvalid,
+  HrpMixedCase; BadLength; NotMs.
+- `codex32.propose_long`: InvalidCharacter, MixedCase, NoSeparator, HrpEmpty, HrpTooLong, HrpNotAscii,
+  HrpInvalid, HrpMixedCase; BadLength; NotMs.
+- `codex32.encode`: BadThreshold, BadIdentifier, NoShareIndex, BadShareIndex, BadSize.
+- `codex32.encode_payload`: BadThreshold, BadIdentifier, NoShareIndex, BadShareIndex; InvalidCharacter,
+  MixedCase, BadSize.
+- `codex32.derive`: NoShareIndex; InvalidCharacter, MixedCase, NoSeparator, HrpEmpty, HrpTooLong, HrpNotAscii,
+  HrpInvalid, HrpMixedCase; BadLength; NotMs; WrongChecksum; BadThreshold; BadShareIndex; OtherSet,
+  IndexTwice, BadShareIndex, TooFewShares, Contradiction.
+- `codex32.split`: BadThreshold, BadIdentifier, BadShareIndex, BadSize, BadCount, BadRandom, EqualRandom.
+- `codex32.recover`: InvalidCharacter, MixedCase, NoSeparator, HrpEmpty, HrpTooLong, HrpNotAscii, HrpInvalid,
+  HrpMixedCase; BadLength; NotMs; WrongChecksum; BadThreshold; BadShareIndex; OtherSet, IndexTwice,
+  TooFewShares, Contradiction; BitsLeftOver.
+
+Made by tools/make from docs/refusals.tsv; do not edit.
 """
 
-from typing import Any, ClassVar, Dict, Optional, Tuple, Type, Union
+from typing import Dict, Type
 
-
-# What is refused first in a text without a separator, and what is said of it.
-_INVALID_CHARACTER = 21
-_NO_SEPARATOR_AND_CHARACTER = "the text has no separator, '1', and a character that may not stand behind one"
-
-
-def begins_character(byte: int) -> bool:
-    """Whether a byte of UTF-8 is the first of a character."""
-    return byte & 0xC0 != 0x80
-
-
-class Refused(ValueError):
-    """A call refuses what it is given.
-
-    `text` is the text that is refused, where one is: what was given, and no copy of it. `place` is that of the
-    character at fault, counted in characters from 0, and `character` that character, where one is. What is printed
-    is for people: it names the character, and counts from 1. `number` is that of the refusal in `bech32.h` and
-    `codex32.h`.
-    """
-
-    sentence: ClassVar[str] = "what was given is refused"
-    number: int = 0
-    text: Union[str, bytearray, None]
-    place: Optional[int]
-
-    def __init__(
-        self, text: Union[str, bytearray, None] = None, place: Optional[int] = None, said: Optional[str] = None
-    ) -> None:
-        self.text, self.place = text, place
-        # What is printed before the character: None for the sentence of the class.
-        self._said = said
-        super().__init__((said or self._sentence()) + self._where())
-
-    @property
-    def character(self) -> Optional[str]:
-        """The character at fault, where one is."""
-        if self.text is None or self.place is None:
-            return None
-        if isinstance(self.text, str):
-            return self.text[self.place : self.place + 1] or None
-        begins = [at for at, byte in enumerate(self.text) if begins_character(byte)]
-        start, *rest = begins[self.place : self.place + 2] or [len(self.text)]
-        return self.text[start : rest[0] if rest else None].decode("utf-8", "replace") or None
-
-    def _sentence(self) -> str:
-        # The sentence of the class, but for a text that has no separator for a character to stand behind.
-        separator: Any = "1" if isinstance(self.text, str) else b"1"
-        if self.number == _INVALID_CHARACTER and self.text is not None and separator not in self.text:
-            return _NO_SEPARATOR_AND_CHARACTER
-        return self.sentence
-
-    def _where(self) -> str:
-        character = self.character
-        if self.place is None or character is None:
-            return ""
-        # What would not show, or may be taken for another, has its code point.
-        shown = character if "!" <= character <= "~" else f"U+{ord(character):04X}"
-        return f": character {self.place + 1}, {shown}"
-
-    def __reduce__(self) -> Tuple[Any, ...]:
-        # The arguments of an exception are its words; pickle and copy make one of what it was made of.
-        return type(self), (self.text, self.place, self._said), self.__dict__
-
-
-# Written by tools/refusals.
+from ._refused import Refused as Refused
 
 
 class NullRow(Refused):
@@ -251,42 +230,7 @@ class BadSize(Refused):
     """There are neither 16 to 44 bytes nor 63 or 64."""
 
     sentence = "there are neither 16 to 44 bytes nor 63 or 64"
-    number = 55
-
-
-class TooFewShares(Refused):
-    """There are fewer shares than the threshold."""
-
-    sentence = "there are fewer shares than the threshold"
-    number = 61
-
-
-class OtherSet(Refused):
-    """A share has another threshold, identifier or length than the first."""
-
-    sentence = "a share has another threshold, identifier or length than the first"
-    number = 62
-
-
-class IndexTwice(Refused):
-    """Two shares have one index."""
-
-    sentence = "two shares have one index"
-    number = 63
-
-
-class Contradiction(Refused):
-    """The shares contradict each other."""
-
-    sentence = "the shares contradict each other"
-    number = 64
-
-
-class BadCount(Refused):
-    """There are fewer shares than the threshold, or more than 31."""
-
-    sentence = "there are fewer shares than the threshold, or more than 31"
-    number = 65
+    number = 56
 
 
 class BadRandom(Refused):
@@ -317,11 +261,46 @@ class UnsupportedVersion(Refused):
     number = 70
 
 
+class TooFewShares(Refused):
+    """There are fewer shares than the threshold."""
+
+    sentence = "there are fewer shares than the threshold"
+    number = 74
+
+
+class OtherSet(Refused):
+    """A share has another threshold, identifier or length than the first."""
+
+    sentence = "a share has another threshold, identifier or length than the first"
+    number = 75
+
+
+class IndexTwice(Refused):
+    """Two shares have one index."""
+
+    sentence = "two shares have one index"
+    number = 76
+
+
+class Contradiction(Refused):
+    """The shares contradict each other."""
+
+    sentence = "the shares contradict each other"
+    number = 77
+
+
+class BadCount(Refused):
+    """There are fewer shares than the threshold, or more than 31."""
+
+    sentence = "there are fewer shares than the threshold, or more than 31"
+    number = 78
+
+
 class NoBlindingKey(Refused):
     """A confidential address has less than 33 bytes behind its version."""
 
     sentence = "a confidential address has less than 33 bytes behind its version"
-    number = 71
+    number = 79
 
 
 class NotInDescriptor(Refused):
@@ -426,17 +405,17 @@ BY_NUMBER: Dict[int, Type[Refused]] = {
     51: EncodedTooLong,
     52: BadVersion,
     53: EncodedAddressTooLong,
-    55: BadSize,
-    61: TooFewShares,
-    62: OtherSet,
-    63: IndexTwice,
-    64: Contradiction,
-    65: BadCount,
+    56: BadSize,
     66: BadRandom,
     67: BadElement,
     68: EqualRandom,
     70: UnsupportedVersion,
-    71: NoBlindingKey,
+    74: TooFewShares,
+    75: OtherSet,
+    76: IndexTwice,
+    77: Contradiction,
+    78: BadCount,
+    79: NoBlindingKey,
     80: NotInDescriptor,
     81: NotMs,
     82: BadLength,
@@ -448,5 +427,3 @@ BY_NUMBER: Dict[int, Type[Refused]] = {
     88: NoDescriptorChecksum,
     89: DescriptorTooLong,
 }
-
-# End of what it writes.

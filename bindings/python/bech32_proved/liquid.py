@@ -14,13 +14,13 @@ the curve is not tested.
 import ctypes
 from typing import Iterable, List, NamedTuple, Optional
 
-from . import _library
+from . import _declared, _library
 from ._library import Buffer, Octets, given, octets, refuse, utf8, whole
 from .texts import Correction, _known, listed_near
 
 # There is no correction, and a version is above 31.
-_NO_CORRECTION = 34
-_NO_ELEMENT = 4
+_NO_CORRECTION = _declared.BECH32_NO_CORRECTION
+_NO_ELEMENT = _declared.BECH32_BAD_NUMBER
 
 # A text is mended if twice the number of wrong characters, plus the number of those known to be wrong, is at most this.
 _BOUND = 6
@@ -50,8 +50,7 @@ def encode(hrp: str, version: int, key: Octets, program: Octets) -> str:
 
     Of a key of another length, `ValueError`.
 
-    Raises the first of: `HrpEmpty`, `HrpTooLong`, `HrpNotAscii`, `HrpInvalid`, `HrpMixedCase`,
-    `BadVersion`, `UnsupportedVersion`, `ProgramTooShort`, `ProgramTooLong`, `ProgramNotV0`.
+    Raises the first that applies of the refusals that `bech32_proved.errors` lists for this function.
     """
     witness_version, blinding_key = whole(version, "version"), bytes(octets(key, "key"))
     if len(blinding_key) != _library.LIQUID_KEY_LENGTH:
@@ -71,10 +70,7 @@ def encode(hrp: str, version: int, key: Octets, program: Octets) -> str:
 def decode(text: str) -> Address:
     """Decodes a confidential address. It accepts any human-readable part: compare it with that of your network.
 
-    Raises the first of: `InvalidCharacter`, `MixedCase`, `NoSeparator`, `HrpEmpty`, `HrpTooLong`,
-    `HrpNotAscii`, `HrpInvalid`, `HrpMixedCase`; `NoData`, `BadVersion`, `UnsupportedVersion`;
-    `TextTooLong`, `NoChecksum`, `WrongChecksum`; `NoData`, `PaddingTooLong`, `PaddingNotZero`;
-    `NoBlindingKey`; `ProgramTooShort`, `ProgramTooLong`, `ProgramNotV0`.
+    Raises the first that applies of the refusals that `bech32_proved.errors` lists for this function.
     """
     data = utf8(text)
     hrp, program = Buffer(_library.MAX_HRP), Buffer(_library.MAX_LIQUID_PROGRAM)

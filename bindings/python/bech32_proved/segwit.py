@@ -3,13 +3,13 @@
 import ctypes
 from typing import List, NamedTuple, Optional, Tuple
 
-from . import _library
+from . import _declared, _library
 from ._library import Buffer, Lent, Octets, given, in_case_of, octets, refuse, utf8, whole
 from .edits import Edit, EditKind
 from .texts import Change
 
 # A version is above 31.
-_NO_ELEMENT = 4
+_NO_ELEMENT = _declared.BECH32_BAD_NUMBER
 
 
 class Address(NamedTuple):
@@ -28,8 +28,7 @@ class Address(NamedTuple):
 def encode(hrp: str, version: int, program: Octets) -> str:
     """Encodes the address of a witness version and a program, in lower case.
 
-    Raises the first of: `HrpEmpty`, `HrpTooLong`, `HrpNotAscii`, `HrpInvalid`, `HrpMixedCase`,
-    `BadVersion`, `ProgramTooShort`, `ProgramTooLong`, `ProgramNotV0`, `EncodedAddressTooLong`.
+    Raises the first that applies of the refusals that `bech32_proved.errors` lists for this function.
     """
     witness_version = whole(version, "version")
     # The library takes a number of 32 bits.
@@ -47,10 +46,7 @@ def encode(hrp: str, version: int, program: Octets) -> str:
 def decode(text: str) -> Address:
     """Decodes an address. It accepts any human-readable part: compare it with that of your network.
 
-    Raises the first of: `AddressTooLong`; `InvalidCharacter`, `MixedCase`, `NoSeparator`, `HrpEmpty`,
-    `HrpTooLong`, `HrpNotAscii`, `HrpInvalid`, `HrpMixedCase`; `NoData`, `BadVersion`; `NoChecksum`,
-    `WrongChecksum`; `NoData`, `PaddingTooLong`, `PaddingNotZero`, `ProgramTooShort`, `ProgramTooLong`,
-    `ProgramNotV0`.
+    Raises the first that applies of the refusals that `bech32_proved.errors` lists for this function.
     """
     data = utf8(text)
     hrp, program = Buffer(_library.MAX_HRP), Buffer(_library.MAX_PROGRAM)

@@ -5,7 +5,7 @@ from enum import Enum
 from functools import partial
 from typing import Any, FrozenSet, Iterable, List, NamedTuple, Optional, Tuple
 
-from . import _library, _searches
+from . import _declared, _library, _searches
 from ._library import Buffer, Octets, given, in_case_of, listed, octets, refuse, utf8, whole
 from .errors import BadElement, WrongChecksum
 
@@ -16,7 +16,7 @@ ALPHABET = "qpzry9x8gf2tvdw0s3jn54khce6mua7l"
 _UNREADABLE, _FILLER = "?", "0"
 
 # There is no correction.
-_NO_CORRECTION = 34
+_NO_CORRECTION = _declared.BECH32_NO_CORRECTION
 
 # The bytes that near texts are put into at first. If all of them take more, the first search says how much, and a
 # second one puts them.
@@ -161,8 +161,7 @@ class Typed(NamedTuple):
 def encode(checksum: Checksum, hrp: str, data: Octets) -> str:
     """Encodes bytes under a human-readable part by a checksum, in lower case.
 
-    Raises the first of: `HrpEmpty`, `HrpTooLong`, `HrpNotAscii`, `HrpInvalid`, `HrpMixedCase`,
-    `EncodedTooLong`.
+    Raises the first that applies of the refusals that `bech32_proved.errors` lists for this function.
     """
     known = _any_number(checksum)
     text = Buffer(_library.MAX_LONG_TEXT if Checksum(known)._is_long else _library.MAX_TEXT)
@@ -181,8 +180,7 @@ def decode(text: str) -> Decoded:
     Decode an address by `segwit.decode`, not by this. The first element of an address is its witness version, so
     this returns the program shifted by five bits. That looks like a hash, but it is not the program.
 
-    Raises the first of: `InvalidCharacter`, `MixedCase`, `NoSeparator`, `HrpEmpty`, `HrpTooLong`,
-    `HrpNotAscii`, `HrpInvalid`, `HrpMixedCase`; `TextTooLong`, `NoChecksum`, `WrongChecksum`.
+    Raises the first that applies of the refusals that `bech32_proved.errors` lists for this function.
     """
     data = utf8(text)
     hrp, found = Buffer(_library.MAX_HRP), Buffer(_library.MAX_BYTES)
@@ -205,9 +203,7 @@ def decode_strict(checksum: Checksum, text: str) -> Decoded:
         ...
         bech32_proved.errors.PaddingNotZero: the bits behind the last whole byte are not all zero
 
-    Raises the first of: `InvalidCharacter`, `MixedCase`, `NoSeparator`, `HrpEmpty`, `HrpTooLong`,
-    `HrpNotAscii`, `HrpInvalid`, `HrpMixedCase`; `TextTooLong`, `NoChecksum`, `WrongChecksum`;
-    `PaddingTooLong`, `PaddingNotZero`.
+    Raises the first that applies of the refusals that `bech32_proved.errors` lists for this function.
     """
     known, data = _any_number(checksum), utf8(text)
     hrp = Buffer(_library.MAX_HRP)
@@ -226,8 +222,7 @@ def decode_elements(checksum: Checksum, text: str) -> Elements:
         >>> decode_elements(Checksum.BECH32, "A1QPAMNT9J")
         Elements(hrp='A', elements=b'\\x00\\x01')
 
-    Raises the first of: `InvalidCharacter`, `MixedCase`, `NoSeparator`, `HrpEmpty`, `HrpTooLong`,
-    `HrpNotAscii`, `HrpInvalid`, `HrpMixedCase`; `TextTooLong`, `NoChecksum`, `WrongChecksum`.
+    Raises the first that applies of the refusals that `bech32_proved.errors` lists for this function.
     """
     known, data = _any_number(checksum), utf8(text)
     hrp = Buffer(_library.MAX_HRP)
@@ -247,8 +242,7 @@ def encode_elements(checksum: Checksum, hrp: str, elements: Octets) -> str:
 
     The place of what is raised for an element is that of the first above 31.
 
-    Raises the first of: `HrpEmpty`, `HrpTooLong`, `HrpNotAscii`, `HrpInvalid`, `HrpMixedCase`,
-    `EncodedTooLong`, `BadElement`.
+    Raises the first that applies of the refusals that `bech32_proved.errors` lists for this function.
     """
     known, held = _any_number(checksum), bytes(octets(elements, "elements"))
     text, place = Buffer(_library.MAX_LONG_TEXT if Checksum(known)._is_long else _library.MAX_TEXT), ctypes.c_size_t()

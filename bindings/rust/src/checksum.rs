@@ -1,5 +1,6 @@
 //! The checksums that the library knows, none, and the engine that makes them.
 
+use crate::declared::{BECH32_MAX_LONG_TEXT, BECH32_MAX_TEXT};
 use crate::{raw, Fe32, Hrp};
 use std::fmt::Debug;
 use std::ops::BitXor;
@@ -68,14 +69,14 @@ pub enum NoChecksum {}
 
 impl Checksum for Bech32 {
     type MidstateRepr = u32;
-    const CODE_LENGTH: usize = 1023;
+    const CODE_LENGTH: usize = BECH32_MAX_TEXT;
     const CHECKSUM_LENGTH: usize = LENGTH;
     const TARGET_RESIDUE: u32 = BECH32.target;
 }
 
 impl Checksum for Bech32m {
     type MidstateRepr = u32;
-    const CODE_LENGTH: usize = 1023;
+    const CODE_LENGTH: usize = BECH32_MAX_TEXT;
     const CHECKSUM_LENGTH: usize = LENGTH;
     const TARGET_RESIDUE: u32 = BECH32M.target;
 }
@@ -127,7 +128,7 @@ pub struct Code {
 pub const BECH32: Code = Code {
     number: 1,
     engine: 1,
-    code_length: 1023,
+    code_length: BECH32_MAX_TEXT,
     target: 1,
 };
 
@@ -135,24 +136,21 @@ pub const BECH32: Code = Code {
 pub const BECH32M: Code = Code {
     number: 2,
     engine: 2,
-    code_length: 1023,
+    code_length: BECH32_MAX_TEXT,
     target: 0x2bc8_30a3,
 };
-
-// The characters that a long text has at most.
-const LONG_CODE_LENGTH: usize = 7089;
 
 /// The checksum of BIP-173 for long texts.
 pub const LONG_BECH32: Code = Code {
     number: 3,
-    code_length: LONG_CODE_LENGTH,
+    code_length: BECH32_MAX_LONG_TEXT,
     ..BECH32
 };
 
 /// The checksum of BIP-350 for long texts.
 pub const LONG_BECH32M: Code = Code {
     number: 4,
-    code_length: LONG_CODE_LENGTH,
+    code_length: BECH32_MAX_LONG_TEXT,
     ..BECH32M
 };
 

@@ -64,20 +64,21 @@ pub use secret::{SecretBytes, SecretText};
 pub use share::Share;
 pub use split::{random_length, recover, split, split_with, SplitError, MAX_SPLIT};
 
+use crate::declared;
 use crate::raw::{self, Block};
 use crate::Fe32;
 
 /// The characters that a string has at most.
-pub const MAX_TEXT_LENGTH: usize = 127;
+pub const MAX_TEXT_LENGTH: usize = declared::CODEX32_TEXT_SIZE;
 
 /// The bytes that a string holds at most.
-pub const MAX_BYTES: usize = 64;
+pub const MAX_BYTES: usize = declared::CODEX32_BYTES_SIZE;
 
 /// The strings that a set has at most, one at each index.
-pub const MAX_SHARES: usize = 32;
+pub const MAX_SHARES: usize = declared::CODEX32_MAX_SHARES;
 
-// The bytes that suffice for the proposal of a text of at most 127 characters. Of others none is looked for.
-const MEMORY: usize = 16384 + 8 * MAX_TEXT_LENGTH;
+// The bytes that suffice for the proposal of a text of at most this many characters. Of others none is looked for.
+const MEMORY: usize = declared::codex32_memory(MAX_TEXT_LENGTH);
 
 // The character of a share index, as the library takes it.
 fn character(share_index: Fe32) -> u32 {

@@ -1,6 +1,7 @@
 //! Mistyped texts mended.
 
 use crate::checksum::CorrectingChecksum;
+use crate::declared::BECH32_MAX_LISTED;
 use crate::lent::{Lent, MOST_MEMORY};
 use crate::raw::{self, Block};
 use crate::text::{ascii, in_case_of, is_in_upper_case, MAX_TEXT_LENGTH};
@@ -9,7 +10,7 @@ use std::fmt;
 use std::iter::once;
 
 // The locations that a correction has at most.
-const MAX_LISTED: usize = 3;
+const MAX_LISTED: usize = BECH32_MAX_LISTED;
 
 // The bytes that near texts are put into at first. If all of them take more, the first search says how much,
 // and a second one puts them.

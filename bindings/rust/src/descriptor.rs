@@ -16,6 +16,7 @@
 //! such a one only on a computer that is offline. What a call takes for itself, and the stack that the library
 //! used, are filled with zeros after it; the strings that you give and get are yours.
 
+use crate::declared;
 use crate::raw::{self, Block};
 use crate::text::ascii;
 use crate::Refusal;
@@ -25,20 +26,13 @@ use std::fmt;
 const MOST_MEMORY: usize = 256 << 20;
 
 // The characters of a checksum, and the most of a text that is mended by one edit, and by two.
-const CHECKSUM_LENGTH: usize = 8;
-const MAX_LENGTH: usize = 7500;
-const MAX_LENGTH_FOR_TWO: usize = 1400;
+const CHECKSUM_LENGTH: usize = declared::BECH32_DESCRIPTOR_CHECKSUM;
+const MAX_LENGTH: usize = declared::BECH32_MAX_DESCRIPTOR;
+const MAX_LENGTH_FOR_TWO: usize = declared::BECH32_MAX_DESCRIPTOR_TWO;
 
-// The texts that there is room for at first, the bytes that are lent, with as many more for each character, and
-// the factor by which they grow if they do not suffice.
+// The texts that there is room for at first, and the factor by which memory grows if it does not suffice.
 const LEAST_TEXTS: usize = 8;
-const LEAST_MEMORY: usize = 16384;
-const OF_A_CHARACTER: usize = 400;
 const GROWTH: usize = 8;
-
-// The bytes that are lent for two changed characters.
-const TWO_MEMORY: usize = 65536;
-const TWO_OF_A_CHARACTER: usize = 4608;
 
 // What stands for a character that is not ASCII: one that no descriptor has.
 const STRANGE: u8 = 0x7f;
@@ -352,7 +346,7 @@ impl Room {
 
     // Puts as many as there is room for, and returns the number of all.
     fn put(&mut self, text: &[u8], changed: usize) -> Result<usize, Error> {
-        let size = LEAST_MEMORY + OF_A_CHARACTER * text.len().min(MAX_LENGTH);
+        let size = declared::bech32_descriptor_mend_memory(text.len().min(MAX_LENGTH));
         with_memory(size, |memory| {
             let (kinds, places) = (&mut self.kinds, &mut self.places);
             raw::descriptor_mend(text, changed, memory, kinds, places, &mut self.texts)
@@ -361,7 +355,7 @@ impl Room {
 
     // The same of two changed characters.
     fn put_two(&mut self, text: &[u8]) -> Result<usize, Error> {
-        let size = TWO_MEMORY + TWO_OF_A_CHARACTER * text.len().min(MAX_LENGTH_FOR_TWO);
+        let size = declared::bech32_descriptor_two_memory(text.len().min(MAX_LENGTH_FOR_TWO));
         with_memory(size, |memory| {
             raw::descriptor_mend_two(text, memory, &mut self.places, &mut self.texts)
         })

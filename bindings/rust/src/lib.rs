@@ -86,6 +86,7 @@ mod part;
 #[allow(unsafe_code)]
 mod raw;
 mod refusal;
+mod refusals;
 mod rules;
 pub mod segwit;
 #[cfg(feature = "correct")]

@@ -15,16 +15,17 @@
 
 #[cfg(feature = "correct")]
 use crate::correction::{nearest_by, Correction};
+use crate::declared;
 use crate::part::MAX_HRP_LENGTH;
 use crate::text::ascii;
 use crate::{raw, Hrp, Refusal};
 
 /// The bytes of a blinding key.
-pub const KEY_LENGTH: usize = 33;
+pub const KEY_LENGTH: usize = declared::BECH32_LIQUID_KEY_LENGTH;
 
 // The characters that an address has at most, and the bytes of its program.
-const MAX_TEXT_LENGTH: usize = 201;
-const MAX_LIQUID_PROGRAM: usize = 32;
+const MAX_TEXT_LENGTH: usize = declared::BECH32_MAX_LIQUID_TEXT;
+const MAX_LIQUID_PROGRAM: usize = declared::BECH32_MAX_LIQUID_PROGRAM;
 
 // A text is mended if twice the number of wrong characters, plus the number of those known to be wrong, is at most this.
 #[cfg(feature = "correct")]

@@ -1,6 +1,7 @@
 //! Human-readable parts.
 
 use crate::checksum::BECH32;
+use crate::declared::BECH32_MAX_HRP;
 use crate::text::ascii;
 use crate::{raw, Refusal};
 use std::cmp::Ordering;
@@ -10,7 +11,7 @@ use std::iter::{Copied, Map};
 use std::slice;
 
 /// The bytes that a human-readable part has at most (BIP-173).
-pub(crate) const MAX_HRP_LENGTH: usize = 83;
+pub(crate) const MAX_HRP_LENGTH: usize = BECH32_MAX_HRP;
 
 // The characters of a separator and a checksum.
 const WITHOUT_DATA: usize = 7;

@@ -9,306 +9,12 @@
 #[cfg(feature = "codex32")]
 use crate::codex32;
 use crate::columns::{self, Layout};
-use crate::declared::{Column, Memory};
+use crate::declared::{self as c, Column, Memory};
 use crate::Refusal;
 #[cfg(any(feature = "codex32", feature = "correct"))]
 use std::mem::MaybeUninit;
 #[cfg(any(feature = "codex32", feature = "correct"))]
 use std::sync::atomic::{compiler_fence, Ordering};
-
-mod c {
-    use super::Column;
-
-    crate::declared::declare!(
-        bech32_encode,
-        bech32_decode,
-        bech32_check,
-        bech32_fault,
-        bech32_residue,
-        bech32_segwit_encode,
-        bech32_segwit_decode,
-        bech32_correct,
-        bech32_nearest,
-        bech32_near_edits
-    );
-
-    #[allow(dead_code)]
-    extern "C" {
-        pub fn bech32_decode_strict(
-            checksum: u32,
-            text: *const u8,
-            text_length: usize,
-            hrp: *mut u8,
-            hrp_room: usize,
-            hrp_length: *mut usize,
-            bytes: *mut u8,
-            bytes_room: usize,
-            bytes_length: *mut usize,
-        ) -> u32;
-
-        pub fn bech32_decode_elements(
-            checksum: u32,
-            text: *const u8,
-            text_length: usize,
-            hrp: *mut u8,
-            hrp_room: usize,
-            hrp_length: *mut usize,
-            elements: *mut u8,
-            elements_room: usize,
-            elements_length: *mut usize,
-        ) -> u32;
-
-        pub fn bech32_encode_elements(
-            checksum: u32,
-            hrp: *const u8,
-            hrp_length: usize,
-            elements: *const u8,
-            elements_length: usize,
-            place: *mut usize,
-            text: *mut u8,
-            text_room: usize,
-            text_length: *mut usize,
-        ) -> u32;
-
-        pub fn bech32_liquid_encode(
-            hrp: *const u8,
-            hrp_length: usize,
-            version: u32,
-            key: *const u8,
-            program: *const u8,
-            program_length: usize,
-            text: *mut u8,
-            text_room: usize,
-            text_length: *mut usize,
-        ) -> u32;
-
-        pub fn bech32_liquid_decode(
-            text: *const u8,
-            text_length: usize,
-            hrp: *mut u8,
-            hrp_room: usize,
-            hrp_length: *mut usize,
-            version: *mut u32,
-            key: *mut u8,
-            program: *mut u8,
-            program_room: usize,
-            program_length: *mut usize,
-        ) -> u32;
-
-        pub fn bech32_liquid_nearest(
-            text: *const u8,
-            text_length: usize,
-            erasures: *const usize,
-            erasures_length: usize,
-            errors: usize,
-            memory: *mut super::Memory,
-            texts: *mut u8,
-            texts_room: usize,
-            count: *mut usize,
-        ) -> u32;
-
-        pub fn bech32_descriptor_checksum(
-            text: *const u8,
-            text_length: usize,
-            checksum: *mut u8,
-            checksum_room: usize,
-            checksum_length: *mut usize,
-            place: *mut usize,
-        ) -> u32;
-
-        pub fn bech32_descriptor_check(
-            text: *const u8,
-            text_length: usize,
-            place: *mut usize,
-        ) -> u32;
-
-        pub fn bech32_descriptor_mend(
-            text: *const u8,
-            text_length: usize,
-            changed: usize,
-            memory: *mut super::Memory,
-            kinds: *mut u8,
-            kinds_room: usize,
-            places: *mut usize,
-            places_room: usize,
-            texts: *mut u8,
-            texts_room: usize,
-            count: *mut usize,
-        ) -> u32;
-
-        pub fn bech32_suggest(
-            text: *const u8,
-            text_length: usize,
-            hrp: *const u8,
-            hrp_length: usize,
-            memory: *mut super::Memory,
-            kinds: *mut u8,
-            kinds_room: usize,
-            places: *mut usize,
-            places_room: usize,
-            texts: *mut u8,
-            texts_room: usize,
-            count: *mut usize,
-        ) -> u32;
-
-        pub fn bech32_descriptor_mend_two(
-            text: *const u8,
-            text_length: usize,
-            memory: *mut super::Memory,
-            places: *mut usize,
-            places_room: usize,
-            texts: *mut u8,
-            texts_room: usize,
-            count: *mut usize,
-        ) -> u32;
-
-        pub fn bech32_check_many(
-            checksum: u32,
-            texts: *const Column,
-            first: usize,
-            numbers: *mut u8,
-            count: usize,
-        ) -> u32;
-
-        pub fn bech32_segwit_decode_many(
-            texts: *const Column,
-            first: usize,
-            hrp: *const u8,
-            hrp_length: usize,
-            numbers: *mut u8,
-            count: usize,
-            versions: *mut u8,
-            versions_room: usize,
-            hrp_lengths: *mut u8,
-            hrp_lengths_room: usize,
-            program_offsets: *mut i32,
-            program_offsets_room: usize,
-            programs: *mut u8,
-            programs_room: usize,
-            done: *mut usize,
-        ) -> u32;
-
-        pub fn bech32_segwit_encode_many(
-            hrp: *const u8,
-            hrp_length: usize,
-            versions: *const u8,
-            versions_length: usize,
-            programs: *const Column,
-            first: usize,
-            numbers: *mut u8,
-            count: usize,
-            text_offsets: *mut i32,
-            text_offsets_room: usize,
-            texts: *mut u8,
-            texts_room: usize,
-            done: *mut usize,
-        ) -> u32;
-
-        pub fn bech32_validity_of(
-            numbers: *const u8,
-            count: usize,
-            validity: *mut u8,
-            validity_room: usize,
-            accepted: *mut usize,
-        ) -> u32;
-    }
-}
-
-// Those of `include/codex32.h`.
-#[cfg(feature = "codex32")]
-mod c_codex32 {
-    use crate::declared::Memory;
-
-    extern "C" {
-        pub fn codex32_share(
-            text: *const u8,
-            text_length: usize,
-            threshold: *mut u32,
-            identifier: *mut u8,
-            share_index: *mut u32,
-            bytes: *mut u8,
-            bytes_room: usize,
-            bytes_length: *mut usize,
-        ) -> u32;
-
-        pub fn codex32_encode(
-            threshold: u32,
-            identifier: *const u8,
-            identifier_length: usize,
-            share_index: u32,
-            bytes: *const u8,
-            bytes_length: usize,
-            text: *mut u8,
-            text_room: usize,
-            text_length: *mut usize,
-        ) -> u32;
-
-        pub fn codex32_encode_payload(
-            threshold: u32,
-            identifier: *const u8,
-            identifier_length: usize,
-            share_index: u32,
-            payload: *const u8,
-            payload_length: usize,
-            text: *mut u8,
-            text_room: usize,
-            text_length: *mut usize,
-        ) -> u32;
-
-        pub fn codex32_derive(
-            share_index: u32,
-            texts: *const u8,
-            texts_length: usize,
-            lengths: *const usize,
-            count: usize,
-            text: *mut u8,
-            text_room: usize,
-            text_length: *mut usize,
-        ) -> u32;
-
-        pub fn codex32_split(
-            threshold: u32,
-            identifier: *const u8,
-            identifier_length: usize,
-            secret: *const u8,
-            secret_length: usize,
-            random: *const u8,
-            random_length: usize,
-            count: usize,
-            texts: *mut u8,
-            texts_room: usize,
-            text_length: *mut usize,
-        ) -> u32;
-
-        pub fn codex32_recover(
-            texts: *const u8,
-            texts_length: usize,
-            lengths: *const usize,
-            count: usize,
-            bytes: *mut u8,
-            bytes_room: usize,
-            bytes_length: *mut usize,
-        ) -> u32;
-
-        pub fn codex32_propose(
-            text: *const u8,
-            text_length: usize,
-            memory: *mut Memory,
-            proposed: *mut u8,
-            proposed_room: usize,
-            proposed_length: *mut usize,
-        ) -> u32;
-
-        pub fn codex32_propose_long(
-            text: *const u8,
-            text_length: usize,
-            memory: *mut Memory,
-            proposed: *mut u8,
-            proposed_room: usize,
-            proposed_length: *mut usize,
-        ) -> u32;
-    }
-}
 
 /// Memory that a call is lent, sixteen bytes of it, aligned to as many.
 #[cfg(any(feature = "codex32", feature = "correct"))]
@@ -335,9 +41,9 @@ pub fn wipe<T: Copy>(items: &mut [T], zero: T) {
     compiler_fence(Ordering::SeqCst);
 }
 
-// More of the stack than any function of the library takes: CODEX32_STACK_SIZE, in items of eight bytes.
+// More of the stack than any function of the library takes, in items of eight bytes.
 #[cfg(any(feature = "codex32", feature = "correct"))]
-const STACK: usize = 16384 / 8;
+const STACK: usize = c::CODEX32_STACK_SIZE / 8;
 
 // Puts zeros over the stack below the function that calls it, where a call of the library left copies of a
 // secret. The functions here call it behind the library, so that both begin at the same place.
@@ -728,7 +434,7 @@ pub fn codex32_share(text: &[u8], bytes: &mut [u8]) -> Result<usize, codex32::Re
     let (mut threshold, mut identifier, mut share_index, mut length) = (0, [0; 4], 0, 0);
     // SAFETY: as in `encode`. The identifier has room for its four characters.
     let number = unsafe {
-        c_codex32::codex32_share(
+        c::codex32_share(
             text.as_ptr(),
             text.len(),
             &mut threshold,
@@ -754,7 +460,7 @@ pub fn codex32_encode(
     let mut length = 0;
     // SAFETY: as in `encode`.
     let number = unsafe {
-        c_codex32::codex32_encode(
+        c::codex32_encode(
             threshold,
             identifier.as_ptr(),
             identifier.len(),
@@ -781,7 +487,7 @@ pub fn codex32_encode_payload(
     let mut length = 0;
     // SAFETY: as in `encode`.
     let number = unsafe {
-        c_codex32::codex32_encode_payload(
+        c::codex32_encode_payload(
             threshold,
             identifier.as_ptr(),
             identifier.len(),
@@ -808,7 +514,7 @@ pub fn codex32_derive(
     let mut length = 0;
     // SAFETY: as in `encode`. Lengths that do not add up to that of `texts` are refused.
     let number = unsafe {
-        c_codex32::codex32_derive(
+        c::codex32_derive(
             share_index,
             texts.as_ptr(),
             texts.len(),
@@ -835,7 +541,7 @@ pub fn codex32_split(
     let mut length = 0;
     // SAFETY: as in `encode`.
     let number = unsafe {
-        c_codex32::codex32_split(
+        c::codex32_split(
             threshold,
             identifier.as_ptr(),
             identifier.len(),
@@ -863,7 +569,7 @@ pub fn codex32_recover(
     let mut length = 0;
     // SAFETY: as in `codex32_derive`.
     let number = unsafe {
-        c_codex32::codex32_recover(
+        c::codex32_recover(
             texts.as_ptr(),
             texts.len(),
             lengths.as_ptr(),
@@ -887,7 +593,7 @@ pub fn codex32_propose(
     let (mut lent, mut length) = (lent(memory), 0);
     // SAFETY: as in `nearest`.
     let number = unsafe {
-        c_codex32::codex32_propose(
+        c::codex32_propose(
             text.as_ptr(),
             text.len(),
             &mut lent,
@@ -909,7 +615,7 @@ pub fn codex32_propose_long(
     let (mut lent, mut length) = (lent(memory), 0);
     // SAFETY: as in `nearest`.
     let number = unsafe {
-        c_codex32::codex32_propose_long(
+        c::codex32_propose_long(
             text.as_ptr(),
             text.len(),
             &mut lent,

@@ -6,6 +6,7 @@ use crate::error::{
 };
 use crate::fe32::TryFromError;
 use crate::part as hrp;
+use crate::refusals::bech32_refusals;
 use crate::rules::{InvalidWitnessVersionError, WitnessLengthError};
 use crate::{segwit, DecodeError, EncodeError};
 
@@ -56,7 +57,7 @@ macro_rules! refusals {
 #[cfg(feature = "codex32")]
 pub(crate) use refusals;
 
-refusals! {
+bech32_refusals! { refusals!
     /// Why a call refuses, by the numbers of `include/bech32.h`: each error of this crate has one.
     /// A call names the first refusal that applies, in the order that the header states for it.
     ///
@@ -68,45 +69,7 @@ refusals! {
     /// assert_eq!(refusal.number(), 33);
     /// assert_eq!(refusal.to_string(), "the checksum is wrong");
     /// ```
-    pub enum Refusal {
-        // Written by tools/refusals.
-        NullRow = 1, "the row is null";
-        NotUtf8 = 2, "a text or a human-readable part is not UTF-8";
-        BadNumber = 4, "the number of no checksum, an element above 31, too many errors, or no such rows";
-        HrpEmpty = 11, "the human-readable part is empty";
-        HrpTooLong = 12, "the human-readable part has more than 83 bytes";
-        HrpNotAscii = 13, "the human-readable part has a character that is not ASCII";
-        HrpInvalid = 14, "the human-readable part has a byte that is not from 33 to 126";
-        HrpMixedCase = 15, "the human-readable part has letters of both cases";
-        InvalidCharacter = 21, "a character behind the separator may not stand there";
-        MixedCase = 22, "the text has letters of both cases";
-        NoSeparator = 23, "the text has no separator, 1";
-        TextTooLong = 31, "the text has more than 1023 characters (7089 by a long checksum)";
-        NoChecksum = 32, "too few characters for a checksum stand behind the separator";
-        WrongChecksum = 33, "the checksum is wrong";
-        NoCorrection = 34, "no correction of the data part mends the text";
-        AddressTooLong = 41, "the text has more than 90 characters";
-        NoData = 42, "the address has no witness version";
-        BadVersion = 43, "its witness version is above 16";
-        PaddingTooLong = 44, "more than four bits stand behind the last whole byte";
-        PaddingNotZero = 45, "the bits behind the last whole byte are not all zero";
-        ProgramTooShort = 46, "the program has less than 2 bytes";
-        ProgramTooLong = 47, "the program has more than 40 bytes";
-        ProgramNotV0 = 48, "in version 0 the program has neither 20 nor 32 bytes";
-        OtherHrp = 49, "the address has another human-readable part than is wanted";
-        EncodedTooLong = 51, "the text would have more than 1023 characters (7089 by a long checksum)";
-        EncodedBadVersion = 52, "the witness version is above 16";
-        EncodedAddressTooLong = 53, "the address would have more than 90 characters";
-        BadElement = 67, "an element is above 31";
-        UnsupportedVersion = 70, "a confidential address of another witness version than 0 is not supported";
-        NoBlindingKey = 71, "a confidential address has less than 33 bytes behind its version";
-        NotInDescriptor = 80, "a character may not stand in a descriptor, or not in its checksum";
-        NoDescriptorChecksum = 88, "the text does not end in # and eight characters";
-        DescriptorTooLong = 89, "the text has more than 7500 characters (1400 for two changes), too many to be mended";
-        NoMemory = 91, "the lent memory did not suffice";
-        NoRoom = 92, "a buffer is too small";
-        // End of what it writes.
-    }
+    pub enum Refusal
 }
 
 impl From<hrp::Error> for Refusal {

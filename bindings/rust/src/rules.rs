@@ -1,13 +1,14 @@
 //! The rules of segwit addresses on versions and lengths (BIP-173, Segwit address format): what the
 //! library says of an address.
 
+use crate::declared::BECH32_MAX_SEGWIT_TEXT;
 use crate::segwit::MAX_PROGRAM_LENGTH;
 use crate::{raw, Fe32, Refusal};
 use std::error::Error;
 use std::fmt;
 
 /// The characters that a segwit address has at most.
-pub const MAX_STRING_LENGTH: usize = 90;
+pub const MAX_STRING_LENGTH: usize = BECH32_MAX_SEGWIT_TEXT;
 
 /// The first witness version, whose addresses have the checksum Bech32.
 pub const VERSION_0: Fe32 = Fe32::Q;

@@ -16,6 +16,7 @@
 //! # Ok::<(), Box<dyn std::error::Error>>(())
 //! ```
 
+use crate::declared::BECH32_MAX_SEGWIT_PROGRAM;
 use crate::decode::no_address;
 use crate::error::{causes, SegwitCodeLengthError, SegwitHrpstringError};
 use crate::part::MAX_HRP_LENGTH;
@@ -33,7 +34,7 @@ pub use crate::rules::{VERSION_0, VERSION_1};
 pub use crate::suggest::{suggest, Suggestion};
 
 /// The bytes that a witness program has at most.
-pub(crate) const MAX_PROGRAM_LENGTH: usize = 40;
+pub(crate) const MAX_PROGRAM_LENGTH: usize = BECH32_MAX_SEGWIT_PROGRAM;
 
 // Puts an address into a buffer, in lower case, and gives it.
 fn put<'b>(

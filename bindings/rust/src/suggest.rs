@@ -1,5 +1,6 @@
 //! Addresses that someone may have meant who typed another text.
 
+use crate::declared;
 use crate::edits::Edit;
 use crate::raw::{self, Block};
 use crate::text::{ascii, in_case_of, is_in_upper_case};
@@ -7,9 +8,9 @@ use crate::{Change, Hrp, Refusal};
 use std::fmt;
 
 // These suffice for each call: bytes that are lent, and room for this many addresses.
-const MEMORY: usize = 196_608;
-const MOST: usize = 48;
-const MAX_LENGTH: usize = 90;
+const MEMORY: usize = declared::BECH32_SUGGEST_MEMORY;
+const MOST: usize = declared::BECH32_SUGGESTIONS;
+const MAX_LENGTH: usize = declared::BECH32_MAX_SEGWIT_TEXT;
 
 /// An address that may have been meant, and what is changed to make it. Printed, it is what is changed, to be
 /// shown to people, who count from 1 as these words do.

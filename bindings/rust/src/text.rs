@@ -1,6 +1,7 @@
 //! Texts of any human-readable part.
 
 use crate::checksum::BECH32M;
+use crate::declared::{BECH32_MAX_BYTES, BECH32_MAX_TEXT};
 use crate::decode::undecoded;
 use crate::error::{
     causes, CheckedHrpstringError, ChecksumError, CodeLengthError, UncheckedHrpstringError,
@@ -13,10 +14,10 @@ use std::{fmt, io};
 
 /// The characters that a text has at most which is mended.
 #[cfg(feature = "correct")]
-pub(crate) const MAX_TEXT_LENGTH: usize = 1023;
+pub(crate) const MAX_TEXT_LENGTH: usize = BECH32_MAX_TEXT;
 
 // The bytes that a text has at most.
-const MAX_BYTES: usize = 634;
+const MAX_BYTES: usize = BECH32_MAX_BYTES;
 
 /// The text of characters that the library wrote, or read in a text: ASCII.
 pub(crate) fn ascii(bytes: &[u8]) -> &str {

@@ -28,15 +28,7 @@ fn told(rows: usize, count: usize, done: &mut usize) -> u32
     Refusal::NoRoom.number()
 }
 
-/// Tests the rows of a column from one on, as many as there are numbers, by the checksum of a
-/// number as [`bech32_check`](crate::decode::bech32_check) does, or with 0 by Bech32m and Bech32:
-/// one that accepts the text suffices. The number of each row is put into `numbers`: that of a row
-/// that is null is 1, that of one that is not in the column 4.
-///
-/// # Errors
-///
-/// Returns 4, where there is no such checksum, the column has no layout, or there are no such rows:
-/// then nothing is put.
+/// See `bech32_check_many` in `include/bech32.h`.
 #[unsafe(no_mangle)]
 pub extern "C" fn bech32_check_many(
     checksum: u32,
@@ -56,24 +48,7 @@ pub extern "C" fn bech32_check_many(
     Refusal::BadNumber.number()
 }
 
-/// Decodes the rows of a column from one on, as many as there are numbers, as
-/// [`bech32_segwit_decode`](crate::segwit::bech32_segwit_decode) does. Of each row its number is
-/// put into `numbers`; the witness version into `versions`; the length of the human-readable part,
-/// with which the text begins, into `hrp_lengths`; and the program into `programs`, one behind
-/// another, from `program_offsets[i]` up to `program_offsets[i + 1]`. Where the number is not 0,
-/// version and length are 0, and the program is empty. What has a room of 0 is not put; and no
-/// program is where there is none for offsets.
-///
-/// The number of a row that is null is 1, that of one that is not in the column 4, and, if `hrp` is
-/// not empty, that of an address with another human-readable part, in either case, 49. `done` is
-/// the number of rows that are put.
-///
-/// # Errors
-///
-/// Returns the first of: 4, where the column has no layout, or there are no such rows; of an `hrp`
-/// that is not empty 2, where it is not UTF-8, and 12 to 15, where it is no human-readable part:
-/// then nothing is put. 92, where the next row has no room in one of the buffers, or the programs
-/// would have 2^31 bytes or more: then `done` is less than there are numbers.
+/// See `bech32_segwit_decode_many` in `include/bech32.h`.
 #[unsafe(no_mangle)]
 pub extern "C" fn bech32_segwit_decode_many(
     texts: &Column<'_>,
@@ -122,19 +97,7 @@ pub extern "C" fn bech32_segwit_decode_many(
     }
 }
 
-/// Encodes the rows of a column of programs from one on, as many as there are numbers, as
-/// [`bech32_segwit_encode`](crate::segwit::bech32_segwit_encode) does: row `first + i` by the
-/// witness version `versions[i]`, all under one human-readable part. Of each row its number is put
-/// into `numbers`, and its address, in lower case, into `texts`, one behind another, from
-/// `text_offsets[i]` up to `text_offsets[i + 1]`. Where the number is not 0, the address is empty:
-/// that of a row that is null is 1, that of one that is not in the column 4. `done` is the number
-/// of rows that are put.
-///
-/// # Errors
-///
-/// Returns the first of: 4, where the column has no layout, there are no such rows, or fewer
-/// versions: then nothing is put. 92, where the next row has no room in one of the buffers, or the
-/// addresses would have 2^31 bytes or more: then `done` is less than there are numbers.
+/// See `bech32_segwit_encode_many` in `include/bech32.h`.
 #[unsafe(no_mangle)]
 pub extern "C" fn bech32_segwit_encode_many(
     hrp: &[u8],
@@ -173,12 +136,7 @@ pub extern "C" fn bech32_segwit_encode_many(
     }
 }
 
-/// Puts a bit for each number into `validity`, eight to a byte and the lowest first: 1 where the
-/// number is 0, and 0 behind the last. `accepted` is how many numbers are 0.
-///
-/// # Errors
-///
-/// Returns 92, where `validity` has less than a bit for each number: then nothing is put.
+/// See `bech32_validity_of` in `include/bech32.h`.
 #[unsafe(no_mangle)]
 pub extern "C" fn bech32_validity_of(
     numbers: &[u8],

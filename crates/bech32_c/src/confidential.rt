@@ -16,16 +16,7 @@ use bech32_more_calls::confidential::address::{decoded, encoded};
 use bech32_more_calls::confidential::nearest::put_nearest;
 use caller_memory::Memory;
 
-/// Encodes a confidential address of a witness version, which is to be 0, a blinding key and a
-/// program, as `liquid::encode` does. It is put at the front of `text`, in lower case, and
-/// `text_length` is then the number of its characters, at most 201.
-///
-/// # Errors
-///
-/// Returns the number of the first of: a version above 31 (4); a human-readable part that is not
-/// UTF-8 (2), or is none (11 to 15); a version above 16 (52), or from 1 to 16 (70); a program of
-/// less than 2 bytes (46), of more than 40 (47), or of neither 20 nor 32 (48); an address of more
-/// characters than `text` has room for (92).
+/// See `bech32_liquid_encode` in `include/bech32.h`.
 #[unsafe(no_mangle)]
 pub extern "C" fn bech32_liquid_encode(
     hrp: &[u8],
@@ -52,15 +43,7 @@ pub extern "C" fn bech32_liquid_encode(
     }
 }
 
-/// Decodes a confidential address, as `liquid::decode` does. The human-readable part, in the case
-/// of the text, is put at the front of `hrp`, the blinding key into `key`, and the program at the
-/// front of `program`; `hrp_length` and `program_length` are then their lengths, at most 83 and 32,
-/// and `version` is the witness version, 0.
-///
-/// # Errors
-///
-/// Returns the number of the first of: a text that is not UTF-8 (2); its first fault (11 to 15, 21
-/// to 23, 31 to 33, 42 to 48, 70, 71); a buffer that is too small (92).
+/// See `bech32_liquid_decode` in `include/bech32.h`.
 #[unsafe(no_mangle)]
 pub extern "C" fn bech32_liquid_decode(
     text: &[u8],
@@ -93,28 +76,7 @@ pub extern "C" fn bech32_liquid_decode(
     }
 }
 
-/// Lists the texts near to a mistyped one, by Blech32: all that it accepts and that differ from
-/// `text` in at most `errors` characters, 0 to 3, of the data part outside `erasures`. These are
-/// the locations of at most six characters that are known to be wrong; location 0 is the last
-/// character. Twice `errors`, with the number of different erasures, may be at most seven. With
-/// more than six there are no texts, nor with one that is not in the data part. The texts are put,
-/// in lower case and one behind another, at the front of `texts`; each has the length of `text`,
-/// and `count` is their number, which may be 0. They are worked out in `memory`. Where Blech32
-/// accepts the text, it is the first.
-///
-/// # Errors
-///
-/// Returns the number of the first of: more than three errors, or more than seven, where twice
-/// `errors` and at most six different erasures are added (4); a text that is not UTF-8 (2); its
-/// first fault (11 to 15, 21 to 23, 31, 32), all before any memory is taken; a buffer that is too
-/// small (92), one that is shorter than all texts together: then `count` is the number of all, and
-/// as many whole texts as fit are put into `texts`, the first. Where `memory` does not suffice, 91
-/// in place of 0 or 92: then `memory` and `texts` are as they were, or `memory` had bytes and has
-/// none, and `texts` may have changed. It never comes with more than six different erasures, nor
-/// with one that is not in the data part. With every other number `memory` is as it was.
-///
-/// With no more errors, a text that Blech32 accepts, or refuses for its residue alone, gives 0, 92
-/// or 91.
+/// See `bech32_liquid_nearest` in `include/bech32.h`.
 #[unsafe(no_mangle)]
 pub extern "C" fn bech32_liquid_nearest(
     text: &[u8],

@@ -15,16 +15,7 @@ ghost use Rattle.bech32_calls.specs.Faults.{IsNumberOf};
 
 use bech32_calls::decode::{checked_by, decoded};
 
-/// Decodes a text that Bech32m or Bech32 accepts, as `bech32::decode` does. The human-readable
-/// part, in the case of the text, is put at the front of `hrp`, and the bytes at the front of
-/// `bytes`; `hrp_length` and `bytes_length` are then their lengths, at most 83 and 634. Of a text
-/// that [`bech32_encode`](crate::encode::bech32_encode) writes these are the human-readable part,
-/// in lower case, and the bytes.
-///
-/// # Errors
-///
-/// Returns the number of the first of: a text that is not UTF-8 (2); its first fault (11 to 15, 21
-/// to 23, 31 to 33); a buffer that is too small (92).
+/// See `bech32_decode` in `include/bech32.h`.
 #[unsafe(no_mangle)]
 pub extern "C" fn bech32_decode(
     text: &[u8],
@@ -58,15 +49,7 @@ pub extern "C" fn bech32_decode(
     }
 }
 
-/// Tests whether the checksum that a number stands for (1 is Bech32, 2 is Bech32m, 3 and 4 are the
-/// same for long texts) accepts a text, as `CheckedHrpstring::new` does. `hrp_length` is then the
-/// length of the human-readable part and `data_length` that of the data part, without the six
-/// characters of the checksum: the one stands first in the text, the other behind the separator.
-///
-/// # Errors
-///
-/// Returns the number of the first of: another number for `checksum` (4); a text that is not UTF-8
-/// (2); its first fault (11 to 15, 21 to 23, 31 to 33).
+/// See `bech32_check` in `include/bech32.h`.
 #[unsafe(no_mangle)]
 pub extern "C" fn bech32_check(
     checksum: u32,

@@ -18,13 +18,7 @@ use bech32_more_calls::descriptor::mends::put_mends;
 use bech32_more_calls::descriptor::two_mends::put_two_mends;
 use caller_memory::Memory;
 
-/// Computes the checksum of a descriptor (BIP-380), which is given without `#` and checksum. Its
-/// eight characters are put at the front of `checksum`, and `checksum_length` is then 8.
-///
-/// # Errors
-///
-/// Returns the number of the first of: a byte that is no character of BIP-380 (80), with `place`
-/// the number of bytes before it; a buffer of less than eight bytes (92).
+/// See `bech32_descriptor_checksum` in `include/bech32.h`.
 #[unsafe(no_mangle)]
 pub extern "C" fn bech32_descriptor_checksum(
     text: &[u8],
@@ -56,14 +50,7 @@ pub extern "C" fn bech32_descriptor_checksum(
     }
 }
 
-/// Tests a descriptor with its checksum: characters of BIP-380, `#`, and the eight characters of
-/// the checksum, in lower case.
-///
-/// # Errors
-///
-/// Returns the number of the first of: a text that does not end in `#` and eight bytes (88); a byte
-/// that may not stand where it does (80), with `place` the number of bytes before the first such;
-/// a wrong checksum (33).
+/// See `bech32_descriptor_check` in `include/bech32.h`.
 #[unsafe(no_mangle)]
 pub extern "C" fn bech32_descriptor_check(text: &[u8], place: &mut usize) -> u32
     ensures value { result ≡ 0 → IsDescriptor text.now }
@@ -84,24 +71,7 @@ pub extern "C" fn bech32_descriptor_check(text: &[u8], place: &mut usize) -> u32
     }
 }
 
-/// Lists the descriptors other than this text that one edit makes of it, with at most `changed` of
-/// its characters changed, 0 or 1: a character is changed, two neighbours are swapped, a character
-/// is left out, or one is put in. Of each its kind is put at the front of `kinds` (1: swapped, 2:
-/// left out, 3: put in, 4: changed), two places at the front of `places`, those of two that are
-/// swapped, else the place twice, and the text that it makes, one behind another, at the front of
-/// `texts`; `count` is their number, which may be 0. A place is the number of bytes before it: in
-/// this text, but of one that is put in in the new one. Texts with one changed come first, then
-/// two swapped, one left out, one put in; within a kind the places rise, and at one place the bytes
-/// put there. They are worked out in `memory`.
-///
-/// # Errors
-///
-/// Returns the number of the first of: more than one to be changed (4); a text of more than 7,500
-/// bytes (89), both before any memory is taken; buffers that are too small (92), only where not all
-/// fit: then `count` is the number of all, and as many as fit in each of the three buffers are put
-/// there, the first. Where the text has at least eight bytes and `memory` does not suffice, 91 in
-/// place of 0 or 92: then `memory` and the buffers are as they were; or `memory` had bytes and has
-/// none, and the buffers may have changed. With every other number `memory` is as it was.
+/// See `bech32_descriptor_mend` in `include/bech32.h`.
 #[unsafe(no_mangle)]
 pub extern "C" fn bech32_descriptor_mend(
     text: &[u8],
@@ -132,20 +102,7 @@ pub extern "C" fn bech32_descriptor_mend(
     }
 }
 
-/// Lists the descriptors that come from this text by two of its characters changed. Of each two
-/// places are put at the front of `places`, and the text, one behind another, at the front of
-/// `texts`; `count` is their number, which may be 0. A place is the number of bytes before it. They
-/// are in the order of the second place, then of the byte put there, then of the first place, and
-/// of its byte. They are worked out in `memory`.
-///
-/// # Errors
-///
-/// Returns the number of the first of: a text of more than 1,400 bytes (89), before any memory is
-/// taken; buffers that are too small (92), only where not all fit: then `count` is the number of
-/// all, and as many as fit in both buffers are put there, the first. Where the text has at least
-/// nine bytes and `memory` does not suffice, 91 in place of 0 or 92: then `memory` and the buffers
-/// are as they were; or `memory` had bytes and has none, and the buffers may have changed. With
-/// every other number `memory` is as it was.
+/// See `bech32_descriptor_mend_two` in `include/bech32.h`.
 #[unsafe(no_mangle)]
 pub extern "C" fn bech32_descriptor_mend_two(
     text: &[u8],

@@ -10,18 +10,7 @@ ghost use Rattle.bech32_calls.specs.Faults.{IsNumberOf};
 
 use bech32_calls::elements::{decoded_elements_by, encoded_elements_by, place_of_element};
 
-/// Decodes a text that the checksum of a number accepts (1 is Bech32, 2 is Bech32m, 3 and 4 are the
-/// same for long texts) to elements, as `bech32::decode_elements` does. The human-readable part, in
-/// the case of the text, is put at the front of `hrp`, and the elements before the checksum, a byte
-/// from 0 to 31 each, at the front of `elements`; `hrp_length` and `elements_length` are then their
-/// lengths, at most 83 and 1015, or 7081 by a long one. In its case, the text is the only one that
-/// this checksum accepts for this part and these elements; [`bech32_encode_elements`] writes it
-/// from them, in lower case.
-///
-/// # Errors
-///
-/// Returns the number of the first of: another number for `checksum` (4); a text that is not UTF-8
-/// (2); its first fault (11 to 15, 21 to 23, 31 to 33); a buffer that is too small (92).
+/// See `bech32_decode_elements` in `include/bech32.h`.
 #[unsafe(no_mangle)]
 pub extern "C" fn bech32_decode_elements(
     checksum: u32,
@@ -50,17 +39,7 @@ pub extern "C" fn bech32_decode_elements(
     }
 }
 
-/// Encodes elements, a byte from 0 to 31 each, under a human-readable part by the checksum of a
-/// number (1 is Bech32, 2 is Bech32m, 3 and 4 are the same for long texts), as
-/// `bech32::encode_elements` does. The text is put at the front of `text`, in lower case, and
-/// `text_length` is then the number of its characters, at most 1023, or 7089 by a long one. With
-/// 67, `place` is the place of the first byte above 31, counted from 0; otherwise it is unchanged.
-///
-/// # Errors
-///
-/// Returns the number of the first of: another number for `checksum` (4); a human-readable part
-/// that is not UTF-8 (2), or is none (11 to 15); a text of more characters than the checksum allows
-/// (51); a byte above 31 (67); a text of more than `text` has room for (92).
+/// See `bech32_encode_elements` in `include/bech32.h`.
 #[unsafe(no_mangle)]
 pub extern "C" fn bech32_encode_elements(
     checksum: u32,

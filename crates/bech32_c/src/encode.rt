@@ -7,16 +7,7 @@ ghost use Rattle.bech32_calls.specs.Faults.{IsNumberOf};
 
 use bech32_calls::encode::encoded_by;
 
-/// Encodes bytes under a human-readable part, as `bech32::encode` does, by the checksum that a
-/// number stands for: 1 is Bech32, 2 is Bech32m, 3 and 4 are the same for long texts. The text is
-/// put at the front of `text`, in lower case, and `text_length` is then the number of its
-/// characters, at most 1023, or 7089 by a long one.
-///
-/// # Errors
-///
-/// Returns the number of the first of: another number for `checksum` (4); a human-readable part
-/// that is not UTF-8 (2), or is none (11 to 15); a text of more characters than the checksum
-/// allows (51), or than `text` has room for (92).
+/// See `bech32_encode` in `include/bech32.h`.
 #[unsafe(no_mangle)]
 pub extern "C" fn bech32_encode(
     checksum: u32,

@@ -7,15 +7,7 @@ ghost use Rattle.bech32_calls.specs.Faults.{IsNumberOf};
 
 use bech32_calls::engine::residue_by;
 
-/// Feeds elements, a byte from 0 to 31 each, to the engine of the checksum that a number stands for
-/// (1 is Bech32, 2 is Bech32m), and sets `residue` to the remainder that it then holds: of the
-/// polynomial 1 with the elements behind it, the first the highest. Its six coefficients are
-/// packed, five bits each, the constant term lowest. A right text leaves 1 by Bech32, and
-/// 0x2bc830a3 by Bech32m, where the elements of its human-readable part go in first.
-///
-/// # Errors
-///
-/// Returns 4 for another number for `checksum`, and for a byte above 31.
+/// See `bech32_residue` in `include/bech32.h`.
 #[unsafe(no_mangle)]
 pub extern "C" fn bech32_residue(checksum: u32, elements: &[u8], residue: &mut u32) -> u32
     ensures value { result ≡ 0

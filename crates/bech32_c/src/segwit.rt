@@ -11,17 +11,7 @@ ghost use Rattle.bech32_calls.specs.Segwit.{PutsProgram, CanDecodeAddress, IsSeg
 
 use bech32_calls::segwit::{decoded, encoded};
 
-/// Encodes a segwit address of a witness version from 0 to 16 and a program, as
-/// `bech32::segwit::encode` does. It is put at the front of `text`, in lower case, and
-/// `text_length` is then the number of its characters, at most 90. Of what
-/// [`bech32_segwit_decode`] gives of a text it is that text in lower case.
-///
-/// # Errors
-///
-/// Returns the number of the first of: a version above 31 (4); a human-readable part that is not
-/// UTF-8 (2), or is none (11 to 15); a version above 16 (52); a program of less than 2 bytes (46),
-/// of more than 40 (47), or of neither 20 nor 32 in version 0 (48); an address of more than 90
-/// characters (53), or of more than `text` has room for (92).
+/// See `bech32_segwit_encode` in `include/bech32.h`.
 #[unsafe(no_mangle)]
 pub extern "C" fn bech32_segwit_encode(
     hrp: &[u8],
@@ -50,15 +40,7 @@ pub extern "C" fn bech32_segwit_encode(
     }
 }
 
-/// Decodes a segwit address, as `bech32::segwit::decode` does. The human-readable part, in the case
-/// of the text, is put at the front of `hrp`, and the program at the front of `program`;
-/// `hrp_length` and `program_length` are then their lengths, at most 83 and 40, and `version` is
-/// the witness version, from 0 to 16.
-///
-/// # Errors
-///
-/// Returns the number of the first of: a text that is not UTF-8 (2); its first fault (11 to 15, 21
-/// to 23, 31 to 33, 41 to 48); a buffer that is too small (92).
+/// See `bech32_segwit_decode` in `include/bech32.h`.
 #[unsafe(no_mangle)]
 pub extern "C" fn bech32_segwit_decode(
     text: &[u8],

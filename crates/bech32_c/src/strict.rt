@@ -7,18 +7,7 @@ ghost use Rattle.bech32_calls.specs.Strict.{PutsStrict, CanDecodeStrict, IsStric
 
 use bech32_calls::strict::decoded_strict_by;
 
-/// Decodes a text that the checksum of a number accepts (1 is Bech32, 2 is Bech32m, 3 and 4 are the
-/// same for long texts), as `bech32::decode_strict` does. The human-readable part, in the case of
-/// the text, is put at the front of `hrp`, and the bytes at the front of `bytes`; `hrp_length` and
-/// `bytes_length` are then their lengths, at most 83 and 634, or 4425 by a long one. In its case,
-/// the text is the only one that this function decodes by this checksum to this part and these
-/// bytes; [`bech32_encode`](crate::encode::bech32_encode) writes it from them, in lower case.
-///
-/// # Errors
-///
-/// Returns the number of the first of: another number for `checksum` (4); a text that is not UTF-8
-/// (2); its first fault (11 to 15, 21 to 23, 31 to 33); more than four bits behind the last whole
-/// byte (44); bits there that are not all zero (45); a buffer that is too small (92).
+/// See `bech32_decode_strict` in `include/bech32.h`.
 #[unsafe(no_mangle)]
 pub extern "C" fn bech32_decode_strict(
     checksum: u32,

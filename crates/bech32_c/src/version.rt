@@ -2,8 +2,7 @@
 
 ghost use Rattle.std.specs.Prelude.{◌≡◌};
 
-/// The version of the library: 10,000 times the first of its numbers, 100 times the second, and the
-/// third.
+/// See `bech32_version` in `include/bech32.h`.
 #[unsafe(no_mangle)]
 pub extern "C" fn bech32_version() -> u32
     ensures { result ≡ 100 }

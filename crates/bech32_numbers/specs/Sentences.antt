@@ -1,4 +1,6 @@
--- The sentences of refusals, by their numbers: written by tools/refusals from docs/refusals.tsv.
+-- The sentences of refusals, by their numbers.
+--
+-- Made by tools/make from docs/refusals.tsv; do not edit.
 use Rattle.std.specs.Prelude.{◌≡◌, ◌≤◌, ℕ, List, [], length, codes, ◌==◌, if◌then◌else◌}
 use Rattle.std.specs.Borrow.{Bor}
 
@@ -18,8 +20,6 @@ common_sentence n =
     else (if n == 91 then codes "the lent memory did not suffice"
     else (if n == 92 then codes "a buffer is too small"
     else [])))))))))))
-
--- End of the sentences.
 
 -- the sentence of a number of bech32.h, empty for a number that is none of it
 abbrev pub bech32_sentence : ℕ → List ℕ
@@ -46,14 +46,12 @@ bech32_sentence n =
     else (if n == 67 then codes "an element is above 31"
     else (if n == 70 then codes
     "a confidential address of another witness version than 0 is not supported"
-    else (if n == 71 then codes "a confidential address has less than 33 bytes behind its version"
+    else (if n == 79 then codes "a confidential address has less than 33 bytes behind its version"
     else (if n == 80 then codes "a character may not stand in a descriptor, or not in its checksum"
     else (if n == 88 then codes "the text does not end in `#` and eight characters"
     else (if n == 89 then codes
     "the text has more than 7500 characters (1400 for two changes), too many to be mended"
     else common_sentence n))))))))))))))))))))))
-
--- End of the sentences.
 
 -- the sentence of a number of codex32.h, empty for a number that is none of it
 abbrev pub codex32_sentence : ℕ → List ℕ
@@ -61,14 +59,14 @@ codex32_sentence n =
     if n == 4 then codes
     "there are more than 32 texts, or their lengths do not add up to that of all"
     else (if n == 34 then codes "there is no nearest text"
-    else (if n == 55 then codes "there are neither 16 to 44 bytes nor 63 or 64"
-    else (if n == 61 then codes "there are fewer shares than the threshold"
-    else (if n == 62 then codes "a share has another threshold, identifier or length than the first"
-    else (if n == 63 then codes "two shares have one index"
-    else (if n == 64 then codes "the shares contradict each other"
-    else (if n == 65 then codes "there are fewer shares than the threshold, or more than 31"
+    else (if n == 56 then codes "there are neither 16 to 44 bytes nor 63 or 64"
     else (if n == 66 then codes "there are not as many random bytes as characters are drawn"
     else (if n == 68 then codes "the random bytes are all equal"
+    else (if n == 74 then codes "there are fewer shares than the threshold"
+    else (if n == 75 then codes "a share has another threshold, identifier or length than the first"
+    else (if n == 76 then codes "two shares have one index"
+    else (if n == 77 then codes "the shares contradict each other"
+    else (if n == 78 then codes "there are fewer shares than the threshold, or more than 31"
     else (if n == 81 then codes "the human-readable part is not `ms`"
     else (if n == 82 then codes "a codex32 string has 48 to 93 characters, a long one 125 to 127"
     else (if n == 83 then codes "the threshold is neither 0 nor a digit from 2 to 9"
@@ -77,8 +75,6 @@ codex32_sentence n =
     else (if n == 86 then codes "the share index is not one character of the alphabet"
     else (if n == 87 then codes "more than four bits stand behind the bytes of the payload"
     else common_sentence n))))))))))))))))
-
--- End of the sentences.
 
 -- a text is what these sentences say of a number, in at most 100 characters
 pub record IsSentence (sentences : ℕ → List ℕ) (number : ℕ) (text : Bor (List ℕ)) : Type 0 where

@@ -1,6 +1,6 @@
 //! The sentences of refusals, by their numbers in `include/bech32.h` and `include/codex32.h`.
 //!
-//! The tables are written by tools/refusals from docs/refusals.tsv, as `specs/Sentences.antt` is.
+//! Made by tools/make from docs/refusals.tsv; do not edit.
 
 ghost use Rattle.bech32_numbers.specs.Sentences.{IsSentence, bech32_sentence, codex32_sentence};
 ghost use Rattle.bech32_numbers.specs.Sentences.{common_sentence};
@@ -10,7 +10,6 @@ fn common_sentence_of(number: u32) -> &'static str
     ensures { IsSentence common_sentence number result }
 {
     match number {
-        // The sentences of both headers.
         2 => "a text or a human-readable part is not UTF-8",
         11 => "the human-readable part is empty",
         12 => "the human-readable part has more than 83 bytes",
@@ -23,7 +22,6 @@ fn common_sentence_of(number: u32) -> &'static str
         33 => "the checksum is wrong",
         91 => "the lent memory did not suffice",
         92 => "a buffer is too small",
-        // End of the sentences.
         _ => "",
     }
 }
@@ -34,7 +32,6 @@ pub fn bech32_sentence_of(number: u32) -> &'static str
     ensures { IsSentence bech32_sentence number result }
 {
     match number {
-        // The sentences of bech32.h alone.
         1 => "the row is null",
         4 => "the number of no checksum, an element above 31, too many errors, or no such rows",
         31 => "the text has more than 1023 characters (7089 by a long checksum)",
@@ -54,12 +51,11 @@ pub fn bech32_sentence_of(number: u32) -> &'static str
         53 => "the address would have more than 90 characters",
         67 => "an element is above 31",
         70 => "a confidential address of another witness version than 0 is not supported",
-        71 => "a confidential address has less than 33 bytes behind its version",
+        79 => "a confidential address has less than 33 bytes behind its version",
         80 => "a character may not stand in a descriptor, or not in its checksum",
         88 => "the text does not end in `#` and eight characters",
         89 =>
             "the text has more than 7500 characters (1400 for two changes), too many to be mended",
-        // End of the sentences.
         _ => common_sentence_of(number),
     }
 }
@@ -70,17 +66,16 @@ pub fn codex32_sentence_of(number: u32) -> &'static str
     ensures { IsSentence codex32_sentence number result }
 {
     match number {
-        // The sentences of codex32.h alone.
         4 => "there are more than 32 texts, or their lengths do not add up to that of all",
         34 => "there is no nearest text",
-        55 => "there are neither 16 to 44 bytes nor 63 or 64",
-        61 => "there are fewer shares than the threshold",
-        62 => "a share has another threshold, identifier or length than the first",
-        63 => "two shares have one index",
-        64 => "the shares contradict each other",
-        65 => "there are fewer shares than the threshold, or more than 31",
+        56 => "there are neither 16 to 44 bytes nor 63 or 64",
         66 => "there are not as many random bytes as characters are drawn",
         68 => "the random bytes are all equal",
+        74 => "there are fewer shares than the threshold",
+        75 => "a share has another threshold, identifier or length than the first",
+        76 => "two shares have one index",
+        77 => "the shares contradict each other",
+        78 => "there are fewer shares than the threshold, or more than 31",
         81 => "the human-readable part is not `ms`",
         82 => "a codex32 string has 48 to 93 characters, a long one 125 to 127",
         83 => "the threshold is neither 0 nor a digit from 2 to 9",
@@ -88,7 +83,6 @@ pub fn codex32_sentence_of(number: u32) -> &'static str
         85 => "the identifier is not four characters of the alphabet in one case",
         86 => "the share index is not one character of the alphabet",
         87 => "more than four bits stand behind the bytes of the payload",
-        // End of the sentences.
         _ => common_sentence_of(number),
     }
 }

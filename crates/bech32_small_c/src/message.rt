@@ -1,17 +1,14 @@
 //! Says in words what a number means.
+//!
+//! Made by tools/make (tools/make.d/small_surfaces) from
+//! `crates/bech32_c/src/message.rt`; do not edit.
 
 ghost use Rattle.bech32_numbers.specs.Message.{IsMessage};
 ghost use Rattle.bech32_numbers.specs.Sentences.{bech32_sentence};
 
 use bech32_numbers::{bech32_sentence_of, put_sentence};
 
-/// Puts the sentence of a refusal's number at the front of `message`, in ASCII: it stands beside
-/// the number in `include/bech32.h`. `message_length` is then its length, at most 100, and 0 for a
-/// number that no call returns, and for 0.
-///
-/// # Errors
-///
-/// Returns 92 where `message` has no room for it.
+/// See `bech32_message` in `include/bech32.h`.
 #[unsafe(no_mangle)]
 pub extern "C" fn bech32_message(number: u32, message: &mut [u8], message_length: &mut usize) -> u32
     ensures { IsMessage (bech32_sentence number) message.old message.new

@@ -1,5 +1,5 @@
 -- The numbers of refusals of codex32 strings: those of `bech32_numbers` for the grammar and the
--- checksum, 55 for a string that is not written, from 61 for shares, from 81 for what codex32 asks
+-- checksum, 56 for a string that is not written, from 74 for shares, from 81 for what codex32 asks
 -- besides, 91 for out of memory, and 92 for a buffer that is too small.
 use Rattle.std.specs.Prelude.{ℕ}
 use Rattle.bech32_numbers.specs.Numbers.{number_of_text_error, number_of_checksum_error}
@@ -62,22 +62,22 @@ number_of_payload_error LeftOver = 87
 
 -- of bytes of which no string is made
 abbrev pub number_of_codex32_encode_error : EncodeError → ℕ
-number_of_codex32_encode_error Size = 55
+number_of_codex32_encode_error Size = 56
 number_of_codex32_encode_error EncodeMemory = 91
 
 -- of shares that give no string
 abbrev pub number_of_derive_error : DeriveError → ℕ
-number_of_derive_error TooFew = 61
-number_of_derive_error OtherSet = 62
-number_of_derive_error IndexTwice = 63
-number_of_derive_error Contradiction = 64
+number_of_derive_error TooFew = 74
+number_of_derive_error OtherSet = 75
+number_of_derive_error IndexTwice = 76
+number_of_derive_error Contradiction = 77
 number_of_derive_error UnsharedSet = 84
 number_of_derive_error DeriveMemory = 91
 
 -- of a secret that is not split
 abbrev pub number_of_split_error : SplitError → ℕ
-number_of_split_error SplitSize = 55
-number_of_split_error Count = 65
+number_of_split_error SplitSize = 56
+number_of_split_error Count = 78
 number_of_split_error Random = 66
 number_of_split_error EqualRandom = 68
 number_of_split_error UnsharedSplit = 84

@@ -46,37 +46,37 @@ pub fn payload_error_number(e: PayloadError) -> u8
     }
 }
 
-/// The number, 55 or 91, of bytes of which no string is made.
+/// The number, 56 or 91, of bytes of which no string is made.
 pub fn encode_error_number(e: EncodeError) -> u8
     ensures { HasNumber number_of_codex32_encode_error e result }
 {
     match e {
-        EncodeError::Size => 55,
+        EncodeError::Size => 56,
         EncodeError::Memory => 91,
     }
 }
 
-/// The number, 61 to 64, 84 or 91, of shares that give no string.
+/// The number, 74 to 77, 84 or 91, of shares that give no string.
 pub fn derive_error_number(e: DeriveError) -> u8
     ensures { HasNumber number_of_derive_error e result }
 {
     match e {
-        DeriveError::TooFew => 61,
-        DeriveError::OtherSet => 62,
-        DeriveError::IndexTwice => 63,
-        DeriveError::Contradiction => 64,
+        DeriveError::TooFew => 74,
+        DeriveError::OtherSet => 75,
+        DeriveError::IndexTwice => 76,
+        DeriveError::Contradiction => 77,
         DeriveError::Unshared => 84,
         DeriveError::Memory => 91,
     }
 }
 
-/// The number, 55, 65, 66, 68, 84 or 92, of a secret that is not split.
+/// The number, 56, 66, 68, 78, 84 or 92, of a secret that is not split.
 pub fn split_error_number(e: SplitError) -> u8
     ensures { HasNumber number_of_split_error e result }
 {
     match e {
-        SplitError::Size => 55,
-        SplitError::Count => 65,
+        SplitError::Size => 56,
+        SplitError::Count => 78,
         SplitError::Random => 66,
         SplitError::EqualRandom => 68,
         SplitError::Unshared => 84,

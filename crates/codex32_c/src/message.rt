@@ -5,13 +5,7 @@ ghost use Rattle.bech32_numbers.specs.Sentences.{codex32_sentence};
 
 use bech32_numbers::{codex32_sentence_of, put_sentence};
 
-/// Puts the sentence of a refusal's number at the front of `message`, in ASCII: it stands beside
-/// the number in `include/codex32.h`. `message_length` is then its length, at most 100, and 0 for a
-/// number that no call returns, and for 0.
-///
-/// # Errors
-///
-/// Returns 92 where `message` has no room for it.
+/// See `codex32_message` in `include/codex32.h`.
 #[unsafe(no_mangle)]
 pub extern "C" fn codex32_message(
     number: u32,

@@ -7,16 +7,7 @@ ghost use Rattle.codex32_calls.specs.Parse.{IsParseFault, IsParsedString};
 
 use codex32_calls::parse::parts_of;
 
-/// Reads a codex32 string, as `codex32::Codex32Str::parse` does. `threshold` is then its threshold,
-/// 0 or from 2 to 9, `share_index` the character of its share index, and `payload_length` the
-/// length of its payload, from 26 to 71. These stand in the text: the threshold is character 3,
-/// counted from 0, the identifier characters 4 to 7, the share index character 8, and the payload
-/// begins with character 9.
-///
-/// # Errors
-///
-/// Returns the number of the first of: a text that is not UTF-8 (2); its first fault (21 to 23, 11
-/// to 15, 82, 81, 33, 83, 84).
+/// See `codex32_parse` in `include/codex32.h`.
 #[unsafe(no_mangle)]
 pub extern "C" fn codex32_parse(
     text: &[u8],

@@ -7,17 +7,7 @@ ghost use Rattle.codex32_calls.specs.Recover.{CanRecover, IsRecoverFault, PutsRe
 use codex32_calls::Texts;
 use codex32_calls::recover::put_recovered;
 
-/// Puts the bytes of the secret that shares give at the front of `bytes`: those of the string that
-/// `codex32::derive_into` makes at `s`. `bytes_length` is then how many they are, 16 to 44, or 63
-/// or 64. The texts stand one behind another in `texts`, and `lengths` are theirs.
-///
-/// # Errors
-///
-/// Returns the number of the first of: more than 32 texts, or lengths that do not add up to that of
-/// `texts` (4); the first text that is no string of either length (2, 21 to 23, 11 to 15, 82, 81,
-/// 33, 83, 84); texts that are not of one set (62); an index that stands twice (63); fewer texts
-/// than the threshold (61); texts that contradict each other (64); more than four bits left over
-/// behind the bytes of the payload (87); a buffer that is too small (92).
+/// See `codex32_recover` in `include/codex32.h`.
 #[unsafe(no_mangle)]
 pub extern "C" fn codex32_recover(
     texts: &[u8],

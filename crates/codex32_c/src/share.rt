@@ -6,17 +6,7 @@ ghost use Rattle.codex32_calls.specs.Share.{CanReadShare, IsShareFault, PutsShar
 
 use codex32_calls::share::{characters_of, put_payload};
 
-/// Reads a codex32 string of either length, as `codex32::Share::parse` does.
-/// `threshold` is then its threshold, 0 or from 2 to 9; `identifier` the four characters of its
-/// identifier and `share_index` that of its share index, in lower case. The bytes of its payload,
-/// with what is left over left out, are put at the front of `bytes`, and `bytes_length` is how many
-/// they are, 16 to 44, or 63 or 64.
-///
-/// # Errors
-///
-/// Returns the number of the first of: a text that is not UTF-8 (2); its first fault (21 to 23, 11
-/// to 15, 82, 81, 33, 83, 84); more than four bits left over behind the bytes of the payload (87);
-/// a buffer that is too small (92).
+/// See `codex32_share` in `include/codex32.h`.
 #[unsafe(no_mangle)]
 pub extern "C" fn codex32_share(
     text: &[u8],

@@ -57,11 +57,11 @@ module _ (t : ℕ) (w : List ℕ) (x : ℕ) (given : List ℕ) (room : ℕ) wher
   header-refused-payload n h = record { refusal = refusals.Header h.refusal; holds = h.holds; number = h.number }
 
   module _ (h : Head) (is : IsHeaderOf t w x h) where
-    pub size-refused : (is_byte_count (length given) || is_long_byte_count (length given)) ≡ false → IsNumberOfCodex32 (IsEncodeStringFault t w x given room) 55
+    pub size-refused : (is_byte_count (length given) || is_long_byte_count (length given)) ≡ false → IsNumberOfCodex32 (IsEncodeStringFault t w x given room) 56
     size-refused none = record { refusal = refusals.Encode encode_errors.Size; holds = (is.fine, refl, none); number = refl }
 
     pub size-refused-payload : IsPayload given → (is_payload_count (length given) || is_long_payload_count (length given)) ≡ false
-        → IsNumberOfCodex32 (IsEncodePayloadFault t w x given room) 55
+        → IsNumberOfCodex32 (IsEncodePayloadFault t w x given room) 56
     size-refused-payload payload none = record { refusal = refusals.Encode encode_errors.Size; holds = (is.fine, payload, refl, none); number = refl }
 
     module _ (kind : Kind) where

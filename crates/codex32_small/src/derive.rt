@@ -37,7 +37,7 @@ const LONGEST: usize = 124;
 const BAD_LENGTHS: u32 = 4;
 
 // The number of fewer strings than the threshold.
-const TOO_FEW: u32 = 61;
+const TOO_FEW: u32 = 74;
 
 // The number of a buffer that is too small.
 const NO_ROOM: u32 = 92;

@@ -22,7 +22,7 @@ use codex32_calls::propose::Kind;
 use codex32_steady::character_of;
 
 // The number of bytes of which no string is made.
-const WRONG_SIZE: u32 = 55;
+const WRONG_SIZE: u32 = 56;
 
 // The number of a buffer that is too small.
 const NO_ROOM: u32 = 92;

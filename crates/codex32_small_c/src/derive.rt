@@ -1,4 +1,7 @@
 //! Derives codex32 strings from others of their set.
+//!
+//! Made by tools/make (tools/make.d/small_surfaces) from
+//! `crates/codex32_c/src/derive.rt`; do not edit.
 
 ghost use Rattle.std.specs.Prelude.{◌≡◌, ◌≢◌, length};
 ghost use Rattle.codex32_calls.specs.Derive.{CanDerive, IsDeriveFault, PutsDerived};
@@ -6,18 +9,7 @@ ghost use Rattle.codex32_calls.specs.Faults.{IsNumberOfCodex32};
 
 use codex32_small::derive::derived;
 
-/// Puts the string at an index that others of its set give at the front of `text`, as
-/// `codex32::derive_into` has it; `text_length` is then its length. The texts stand one behind
-/// another in `texts`, and `lengths` are theirs. `share_index` is a character of the alphabet; at
-/// `s` it is the secret.
-///
-/// # Errors
-///
-/// Returns the number of the first of: more than 32 texts, or lengths that do not add up to that of
-/// `texts` (4); the share index (86); the first text that is no string of either length (2, 21 to
-/// 23, 11 to 15, 82, 81, 33, 83, 84); texts that are not of one set (62); an index that stands
-/// twice (63); the threshold is 0 and the index not `s` (84); fewer texts than the threshold (61);
-/// texts that contradict each other (64); a buffer that is too small (92).
+/// See `codex32_derive` in `include/codex32.h`.
 #[unsafe(no_mangle)]
 pub extern "C" fn codex32_derive(
     share_index: u32,

@@ -1,4 +1,7 @@
 //! Makes codex32 strings of bytes, or the characters of a payload.
+//!
+//! Made by tools/make (tools/make.d/small_surfaces) from
+//! `crates/codex32_c/src/encode.rt`; do not edit.
 
 ghost use Rattle.std.specs.Prelude.{◌≡◌, ◌≢◌, length};
 ghost use Rattle.codex32_calls.specs.Encode.{CanEncode, IsEncodeStringFault, PutsEncoded};
@@ -7,16 +10,7 @@ ghost use Rattle.codex32_calls.specs.Payload.{CanEncodePayload, IsEncodePayloadF
 
 use codex32_small::encode::{encoded, encoded_payload};
 
-/// Puts the string of a header and bytes at the front of `text`, as `codex32::encode_into` has it;
-/// `text_length` is then its length. `threshold` is 0 or from 2 to 9, `identifier` four characters
-/// of the alphabet in one case, and `share_index` a character of the alphabet. Of 16 to 44 bytes
-/// the string has 48 to 93 characters, of 63 or 64 it has 125 or 127.
-///
-/// # Errors
-///
-/// Returns the number of the first of: the threshold (83), the identifier (85), the share index
-/// (86), that it is not `s` where the threshold is 0 (84), the number of bytes (55), a buffer that
-/// is too small (92).
+/// See `codex32_encode` in `include/codex32.h`.
 #[unsafe(no_mangle)]
 pub extern "C" fn codex32_encode(
     threshold: u32,
@@ -46,18 +40,7 @@ pub extern "C" fn codex32_encode(
     }
 }
 
-/// Puts the string of a header and the characters of a payload at the front of `text`, as
-/// `codex32::encode_payload_into` has it; `text_length` is then its length. `threshold` is 0 or
-/// from 2 to 9, `identifier` four characters of the alphabet in one case, and `share_index` a
-/// character of the alphabet. The payload's characters are of the alphabet, in one case, and 26 to
-/// 71, or 101 or 103: as many as 16 to 44 bytes, 63 or 64 have.
-///
-/// # Errors
-///
-/// Returns the number of the first of: the threshold (83), the identifier (85), the share index
-/// (86), that it is not `s` where the threshold is 0 (84), a character of the payload that is not
-/// of the alphabet (21), letters of both cases in it (22), the number of its characters (55), a
-/// buffer that is too small (92).
+/// See `codex32_encode_payload` in `include/codex32.h`.
 #[unsafe(no_mangle)]
 pub extern "C" fn codex32_encode_payload(
     threshold: u32,

@@ -92,7 +92,7 @@ fn derives_known_strings(rt: HostRuntime) {
         ),
         (115, PAIR, &[48, 47], 48, (4, b"")),
         (98, PAIR, &[48, 48], 48, (86, b"")),
-        (115, ONE, &[48], 48, (61, b"")),
+        (115, ONE, &[48], 48, (74, b"")),
         (115, PAIR, &[48, 48], 47, (92, b"")),
     ];
     for &(index, texts, lengths, room, want) in ROWS {

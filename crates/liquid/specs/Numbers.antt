@@ -29,7 +29,7 @@ number_of_confidential_error (InvalidWitnessVersion v) = 43
 number_of_confidential_error (UnsupportedVersion v) = 70
 number_of_confidential_error (Checksum e) = number_of_checksum_error e
 number_of_confidential_error (Padding e) = number_of_padding_error e
-number_of_confidential_error NoBlindingKey = 71
+number_of_confidential_error NoBlindingKey = 79
 number_of_confidential_error (WitnessLength e) = number_of_length_error e
 
 -- of a confidential address that is not written

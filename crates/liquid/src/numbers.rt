@@ -8,7 +8,7 @@ use bech32_numbers::{
     checksum_error_number, length_error_number, padding_error_number, text_error_number,
 };
 
-/// The number, 11 to 71, of a text that is not a confidential address.
+/// The number, 11 to 79, of a text that is not a confidential address.
 pub fn decode_error_number(e: DecodeError) -> u8
     ensures { HasNumber number_of_confidential_error e result }
 {
@@ -19,7 +19,7 @@ pub fn decode_error_number(e: DecodeError) -> u8
         DecodeError::UnsupportedVersion(_) => 70,
         DecodeError::Checksum(e) => checksum_error_number(e),
         DecodeError::Padding(e) => padding_error_number(e),
-        DecodeError::NoBlindingKey => 71,
+        DecodeError::NoBlindingKey => 79,
         DecodeError::WitnessLength(e) => length_error_number(e),
     }
 }

@@ -18,8 +18,6 @@ static bech32_memory lent(uint8_t *start, size_t size) {
     return memory;
 }
 
-// Written by tools/functions, for C.
-
 static uint32_t go_check(uint32_t checksum, _GoString_ text, size_t *hrp_length, size_t *data_length) {
     return bech32_check(checksum, at(text), _GoStringLen(text), hrp_length, data_length);
 }
@@ -48,8 +46,6 @@ static uint32_t go_descriptor_checksum(_GoString_ text, uint8_t *checksum, size_
 static uint32_t go_descriptor_check(_GoString_ text, size_t *place) {
     return bech32_descriptor_check(at(text), _GoStringLen(text), place);
 }
-
-// By hand.
 
 static uint32_t go_encode(uint32_t checksum, _GoString_ hrp, const uint8_t *data, size_t length, uint8_t *text,
                           size_t room, size_t *text_length) {
@@ -273,8 +269,6 @@ func Message(number uint32) string {
 // Version returns the version of the library.
 func Version() uint32 { return uint32(C.bech32_version()) }
 
-// Written by tools/functions, for Go.
-
 // Check calls bech32_check, and returns hrpLength and dataLength.
 func Check(checksum uint32, text string) (int, int, uint32) {
 	var hrpLength, dataLength C.size_t
@@ -323,8 +317,6 @@ func DescriptorCheck(text string) (int, uint32) {
 	number := C.go_descriptor_check(text, &place)
 	return int(place), uint32(number)
 }
-
-// By hand.
 
 // Encode calls bech32_encode, with room for every text.
 func Encode(checksum uint32, hrp string, data []byte) (string, uint32) {

@@ -12,8 +12,6 @@ package codex32c
     codex32_wipe_stack();    \
     return number
 
-// Written by tools/functions, for C.
-
 static uint32_t go_parse(const uint8_t *text, size_t text_length, uint32_t *threshold, uint32_t *share_index,
                          size_t *payload_length) {
     WIPED(codex32_parse(text, text_length, threshold, share_index, payload_length));
@@ -32,8 +30,6 @@ static uint32_t go_encode_payload(uint32_t threshold, const uint8_t *identifier,
     WIPED(codex32_encode_payload(threshold, identifier, identifier_length, share_index, payload, payload_length, text,
                                  text_room, text_length));
 }
-
-// By hand.
 
 static uint32_t go_share(const uint8_t *text, size_t length, uint32_t *threshold, uint8_t *identifier, uint32_t *index,
                          uint8_t *bytes, size_t room, size_t *count) {
@@ -108,8 +104,6 @@ func Version() uint32 { return uint32(C.codex32_version()) }
 // Wipe fills bytes with zeros.
 func Wipe(bytes []byte) { C.go_wipe(first(bytes), lengthOf(bytes)) }
 
-// Written by tools/functions, for Go.
-
 // Parse calls codex32_parse, and returns threshold, shareIndex and payloadLength.
 func Parse(text []byte) (uint32, uint32, int, uint32) {
 	var payloadLength C.size_t
@@ -135,8 +129,6 @@ func EncodePayload(threshold uint32, identifier []byte, shareIndex uint32, paylo
 		C.uint32_t(shareIndex), first(payload), C.size_t(len(payload)), first(text), TextSize, &textLength)
 	return text[:textLength:textLength], uint32(number)
 }
-
-// By hand.
 
 // Share calls codex32_share: threshold, identifier, share index and bytes.
 func Share(text []byte) (uint32, string, uint32, []byte, uint32) {

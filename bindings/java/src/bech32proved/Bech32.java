@@ -10,9 +10,9 @@ public final class Bech32 {
     /** The characters of the elements from 0 to 31, in lower case. */
     public static final String ALPHABET = "qpzry9x8gf2tvdw0s3jn54khce6mua7l";
 
-    private static final int MAX_TEXT = 1023;
-    private static final int MAX_HRP = 83;
-    private static final int MAX_LONG_TEXT = 7089;
+    private static final int MAX_TEXT = Declared.BECH32_MAX_TEXT;
+    private static final int MAX_HRP = Declared.BECH32_MAX_HRP;
+    private static final int MAX_LONG_TEXT = Declared.BECH32_MAX_LONG_TEXT;
     private static final int MAX_LISTED = 3;
 
     private Bech32() {}
@@ -194,8 +194,8 @@ public final class Bech32 {
      */
     public static List<Correction> nearest(Checksum checksum, String text, int errors, int... places) {
         int length = Math.min(text.length(), MAX_TEXT);
-        int most = 20 + (length > 90 ? length : 0);
-        int memory = 24576 + 288 * length + most * (length + 720);
+        int most = Declared.BECH32_NEAREST_FEW_TEXTS(length);
+        int memory = Declared.BECH32_NEAREST_FEW_MEMORY(length);
         return nearest(checksum.number, text, errors, memory, most, places);
     }
 

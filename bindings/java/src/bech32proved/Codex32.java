@@ -18,8 +18,8 @@ public final class Codex32 {
     /** The share index of the secret. */
     public static final char SECRET_INDEX = 's';
 
-    private static final int TEXT_SIZE = 127;
-    private static final int BYTES_SIZE = 64;
+    private static final int TEXT_SIZE = Declared.CODEX32_TEXT_SIZE;
+    private static final int BYTES_SIZE = Declared.CODEX32_BYTES_SIZE;
     private static final int MAX_SPLIT = 31;
     private static final SecureRandom RANDOM = new SecureRandom();
 
@@ -246,7 +246,7 @@ public final class Codex32 {
 
     private static Optional<byte[]> proposed(boolean isLong, byte[] text) {
         byte[] proposed = new byte[TEXT_SIZE];
-        byte[] memory = new byte[16384 + 8 * text.length + 15];
+        byte[] memory = new byte[Declared.CODEX32_MEMORY(text.length) + 15];
         int[] out = new int[1];
         int number = Native.propose(isLong, text, memory, proposed, out);
         if (number == Refusal.NO_NEAREST.number()) {

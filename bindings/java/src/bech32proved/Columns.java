@@ -11,8 +11,8 @@ import java.util.Arrays;
 public final class Columns {
     /** Rows at most in one call of the library: the collector may wait for it. */
     private static final int ROWS = 1 << 15;
-    private static final int MAX_PROGRAM = 40;
-    private static final int MAX_ADDRESS = 90;
+    private static final int MAX_PROGRAM = Declared.BECH32_MAX_SEGWIT_PROGRAM;
+    private static final int MAX_ADDRESS = Declared.BECH32_MAX_SEGWIT_TEXT;
 
     private Columns() {}
 

@@ -11,8 +11,8 @@ import java.util.List;
  */
 public final class Descriptor {
     private static final int CHECKSUM_LENGTH = 8;
-    private static final int MAX_LENGTH = 7500;
-    private static final int MAX_LENGTH_FOR_TWO = 1400;
+    private static final int MAX_LENGTH = Declared.BECH32_MAX_DESCRIPTOR;
+    private static final int MAX_LENGTH_FOR_TWO = Declared.BECH32_MAX_DESCRIPTOR_TWO;
 
     private Descriptor() {}
 
@@ -61,7 +61,7 @@ public final class Descriptor {
         if (changed < 0) {
             throw new RefusedException(Refusal.BAD_NUMBER);
         }
-        int memory = 16384 + 400 * Math.min(bytes.length, MAX_LENGTH);
+        int memory = Declared.BECH32_DESCRIPTOR_MEND_MEMORY(Math.min(bytes.length, MAX_LENGTH));
         List<Edited> listed = new ArrayList<>();
         for (Search.Found found : Search.edits(null, bytes.length, memory, 8, 2, (lent, kinds, places, texts, out) ->
                 Native.descriptorMend(bytes, changed, lent, kinds, places, texts, out))) {
@@ -82,7 +82,7 @@ public final class Descriptor {
      */
     public static List<Correction> mendTwo(String text) {
         byte[] bytes = bytes(text);
-        int memory = 65536 + 4608 * Math.min(bytes.length, MAX_LENGTH_FOR_TWO);
+        int memory = Declared.BECH32_DESCRIPTOR_TWO_MEMORY(Math.min(bytes.length, MAX_LENGTH_FOR_TWO));
         List<Correction> listed = new ArrayList<>();
         for (Search.Found found : Search.edits(null, bytes.length, memory, 8, 2, (lent, kinds, places, texts, out) ->
                 Native.descriptorMendTwo(bytes, lent, places, texts, out))) {

@@ -29,9 +29,9 @@ public final class LiquidAddress {
      *     PROGRAM_TOO_SHORT}, {@code PROGRAM_TOO_LONG}, {@code PROGRAM_NOT_V0}
      */
     public static LiquidAddress parse(String text) {
-        byte[] hrp = new byte[83];
-        byte[] key = new byte[33];
-        byte[] program = new byte[32];
+        byte[] hrp = new byte[Declared.BECH32_MAX_HRP];
+        byte[] key = new byte[Declared.BECH32_LIQUID_KEY_LENGTH];
+        byte[] program = new byte[Declared.BECH32_MAX_LIQUID_PROGRAM];
         int[] out = new int[3];
         int number = Native.liquidDecode(Native.bytes(text), hrp, key, program, out);
         if (number != 0) {
@@ -55,7 +55,7 @@ public final class LiquidAddress {
     }
 
     private static String encode(String hrp, int version, byte[] key, byte[] program) {
-        byte[] text = new byte[201];
+        byte[] text = new byte[Declared.BECH32_MAX_LIQUID_TEXT];
         int[] out = new int[1];
         int number = Native.liquidEncode(Native.bytes(hrp), version, key, program, text, out);
         if (number != 0) {
@@ -75,7 +75,8 @@ public final class LiquidAddress {
      * @throws IllegalArgumentException of a place that the text does not have
      */
     public static List<Correction> nearest(String text, int errors, int... places) {
-        return Bech32.nearest(0, text, errors, 24576 + 1024 * Math.min(text.length(), 1023), 8, places);
+        int length = Math.min(text.length(), Declared.BECH32_MAX_TEXT);
+        return Bech32.nearest(0, text, errors, Declared.BECH32_LIQUID_NEAREST_MEMORY(length), 8, places);
     }
 
     /** The human-readable part, in lower case. */

@@ -47,8 +47,6 @@ final class Native {
 
     static native int version(boolean isCodex32);
 
-    // Written by tools/functions.
-
     static native int encode(int checksum, byte[] hrp, byte[] bytes, byte[] text, int[] out);
 
     static native int encodeElements(int checksum, byte[] hrp, byte[] elements, byte[] text, int[] out);
@@ -69,8 +67,6 @@ final class Native {
 
     static native int split(
             int threshold, byte[] identifier, byte[] secret, byte[] random, int count, byte[] texts, int[] out);
-
-    // By hand.
 
     static native int decode(int checksum, boolean isElements, byte[] text, byte[] hrp, byte[] data, int[] out);
 
@@ -128,7 +124,7 @@ final class Native {
     }
 
     static String sentence(int number, boolean isCodex32) {
-        byte[] message = new byte[100];
+        byte[] message = new byte[Declared.BECH32_MAX_MESSAGE];
         return text(message, 0, message(number, isCodex32, message));
     }
 }

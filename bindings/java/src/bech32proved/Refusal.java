@@ -1,8 +1,9 @@
+// Made by tools/make from bindings/java/src/bech32proved/Refusal.java.in and docs/refusals.tsv; do not edit.
+
 package bech32proved;
 
 /** Why something is refused: the numbers and sentences of bech32.h and codex32.h. */
 public enum Refusal {
-    // Written by tools/refusals.
     /** The row is null. */
     NULL_ROW(1, false),
     /** A text or a human-readable part is not UTF-8. */
@@ -62,17 +63,7 @@ public enum Refusal {
     /** The address would have more than 90 characters. */
     ENCODED_ADDRESS_TOO_LONG(53, false),
     /** There are neither 16 to 44 bytes nor 63 or 64. */
-    BAD_SIZE(55, true),
-    /** There are fewer shares than the threshold. */
-    TOO_FEW_SHARES(61, true),
-    /** A share has another threshold, identifier or length than the first. */
-    OTHER_SET(62, true),
-    /** Two shares have one index. */
-    INDEX_TWICE(63, true),
-    /** The shares contradict each other. */
-    CONTRADICTION(64, true),
-    /** There are fewer shares than the threshold, or more than 31. */
-    BAD_COUNT(65, true),
+    BAD_SIZE(56, true),
     /** There are not as many random bytes as characters are drawn. */
     BAD_RANDOM(66, true),
     /** An element is above 31. */
@@ -81,8 +72,18 @@ public enum Refusal {
     EQUAL_RANDOM(68, true),
     /** A confidential address of another witness version than 0 is not supported. */
     UNSUPPORTED_VERSION(70, false),
+    /** There are fewer shares than the threshold. */
+    TOO_FEW_SHARES(74, true),
+    /** A share has another threshold, identifier or length than the first. */
+    OTHER_SET(75, true),
+    /** Two shares have one index. */
+    INDEX_TWICE(76, true),
+    /** The shares contradict each other. */
+    CONTRADICTION(77, true),
+    /** There are fewer shares than the threshold, or more than 31. */
+    BAD_COUNT(78, true),
     /** A confidential address has less than 33 bytes behind its version. */
-    NO_BLINDING_KEY(71, false),
+    NO_BLINDING_KEY(79, false),
     /** A character may not stand in a descriptor, or not in its checksum. */
     NOT_IN_DESCRIPTOR(80, false),
     /** The human-readable part is not {@code ms}. */
@@ -107,7 +108,6 @@ public enum Refusal {
     NO_MEMORY(91, false),
     /** A buffer is too small. */
     NO_ROOM(92, false);
-    // End of what it writes.
 
     private final int number;
     private final boolean isCodex32;

@@ -28,8 +28,8 @@ public final class SegwitAddress {
      *     PROGRAM_NOT_V0}
      */
     public static SegwitAddress parse(String text) {
-        byte[] hrp = new byte[83];
-        byte[] program = new byte[40];
+        byte[] hrp = new byte[Declared.BECH32_MAX_HRP];
+        byte[] program = new byte[Declared.BECH32_MAX_SEGWIT_PROGRAM];
         int[] out = new int[3];
         int number = Native.segwitDecode(Native.bytes(text), hrp, program, out);
         if (number != 0) {
@@ -52,7 +52,7 @@ public final class SegwitAddress {
     }
 
     private static String encode(String hrp, int version, byte[] program) {
-        byte[] text = new byte[90];
+        byte[] text = new byte[Declared.BECH32_MAX_SEGWIT_TEXT];
         int[] out = new int[1];
         int number = Native.segwitEncode(Native.bytes(hrp), version, program, text, out);
         if (number != 0) {
@@ -148,7 +148,8 @@ public final class SegwitAddress {
         byte[] part = Native.bytes(hrp);
         Typed typed = new Typed(text);
         List<Suggestion> listed = new ArrayList<>();
-        for (Search.Found found : Search.edits(null, bytes.length, 196608, 48, 1, (lent, kinds, places, texts, out) ->
+        int memory = Declared.BECH32_SUGGEST_MEMORY, most = Declared.BECH32_SUGGESTIONS;
+        for (Search.Found found : Search.edits(null, bytes.length, memory, most, 1, (lent, kinds, places, texts, out) ->
                 Native.suggest(bytes, part, lent, kinds, places, texts, out))) {
             int place = found.places[0];
             String made = typed.inCase(found.text);

@@ -42,7 +42,7 @@ fn says_sentences(rt: HostRuntime) {
 
 #[test]
 fn says_nothing_of_other_numbers(rt: HostRuntime) {
-    for number in [0, 3, 5, 16, 24, 54, 55, 81, 90, 93, 256, u32::MAX] {
+    for number in [0, 3, 5, 16, 24, 54, 56, 81, 90, 93, 256, u32::MAX] {
         says(&rt, number, 100, (0, b""));
         says(&rt, number, 0, (0, b""));
     }

@@ -22,9 +22,9 @@ fn says_sentences(rt: HostRuntime) {
         ),
         (33, b"the checksum is wrong"),
         (34, b"there is no nearest text"),
-        (64, b"the shares contradict each other"),
+        (77, b"the shares contradict each other"),
         (
-            65,
+            78,
             b"there are fewer shares than the threshold, or more than 31",
         ),
         (68, b"the random bytes are all equal"),

@@ -124,7 +124,7 @@ fn encodes_known_strings(rt: HostRuntime) {
         ((9, b"lc\xff0", 'b'), &[], 0, 85),
         ((9, b"lcr0", 'b'), &[], 0, 86),
         ((0, b"lcr0", 'r'), &[], 0, 84),
-        ((9, b"lcr0", 'r'), &FIFTEEN, 0, 55),
+        ((9, b"lcr0", 'r'), &FIFTEEN, 0, 56),
     ];
     for &(header, given, room, want) in ROWS {
         encodes(&rt, header, given, room, (want, text));
@@ -194,12 +194,12 @@ fn encodes_no_other_payloads(rt: HostRuntime) {
         ((2, b"name", 'a'), b"320Zyb", 21),
         ((2, b"name", 'a'), b"320\xff", 21),
         ((2, b"name", 'a'), b"320Zy", 22),
-        ((2, b"name", 'a'), b"", 55),
-        ((2, b"name", 'a'), b"320zyxwvutsrqpnmlkjhgfedc", 55),
-        ((2, b"name", 'a'), b"320zyxwvutsrqpnmlkjhgfedcaa", 55),
-        ((2, b"name", 'a'), &[b'q'; 72], 55),
-        ((2, b"name", 'a'), &[b'q'; 102], 55),
-        ((2, b"name", 'a'), &[b'q'; 1000], 55),
+        ((2, b"name", 'a'), b"", 56),
+        ((2, b"name", 'a'), b"320zyxwvutsrqpnmlkjhgfedc", 56),
+        ((2, b"name", 'a'), b"320zyxwvutsrqpnmlkjhgfedcaa", 56),
+        ((2, b"name", 'a'), &[b'q'; 72], 56),
+        ((2, b"name", 'a'), &[b'q'; 102], 56),
+        ((2, b"name", 'a'), &[b'q'; 1000], 56),
     ];
     for &(header, payload, want) in ROWS {
         encodes_payload(&rt, header, payload, 0, (want, b""));
@@ -257,7 +257,7 @@ fn derives_known_strings(rt: HostRuntime) {
 #[test]
 fn derives_nothing_of_others(rt: HostRuntime) {
     const ROWS: &[(&[u8], &[usize], u32)] = &[
-        (b"", &[], 61),
+        (b"", &[], 74),
         (PAIR, &[], 4),
         (PAIR, &[48, 47], 4),
         (PAIR, &[48, 49], 4),
@@ -270,22 +270,22 @@ fn derives_nothing_of_others(rt: HostRuntime) {
         (
             b"MS12NAMEA320ZYXWVUTSRQPNMLKJHGFEDCAXRPP870HKKQRM",
             &[48],
-            61,
+            74,
         ),
         (
             b"ms12p28uckv28dt07kx0afygy97k6gqx4dux2vfcte2u8mfkms19p28f2x3q585nh7wq0lvdw3me4ejshqn23z773udhvpzp",
             &[48, 48],
-            62,
+            75,
         ),
         (
             b"ms10uvxascud86jrlpantlanp8ravpa4ze65recqytmhdn87ms10uvxastkxgh5ekgtgldhf5l6cfsjxyaqym80me2rj4mgw",
             &[48, 48],
-            63,
+            76,
         ),
         (
             b"ms12seffkx9wjn6dmy39azwsg54lwgymk9es0zjfq0sdm7mxms12seff6yyl4ae5zfszecmx9x8q86jprh94y89zt5xstl7gms12seffdaraz23vm92qwzplun324shjge80vj7c80qy5het",
             &[48, 48, 48],
-            64,
+            77,
         ),
     ];
     for &(texts, lengths, want) in ROWS {
