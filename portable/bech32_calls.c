@@ -278,10 +278,10 @@ uint32_t bech32_correct(uint32_t checksum, const uint8_t *text, size_t text_leng
     u64 given_count = put_erasures(given, MOST_ERASURES, erasures, erasures_length);
     u64 most = locations_room < BECH32_MAX_LISTED ? locations_room : BECH32_MAX_LISTED;
     u64 values_size = SOME(values_room), mended_size = SOME(mended_room);
-    u64 text_at = lend(&m, text, text_length), given_at = lend(&m, given, sizeof given_words);
+    u64 text_at = lend(&m, text, text_length), interpolate_if_consistent = lend(&m, given, sizeof given_words);
     u64 values_at = lend_room(&m, values, values_size), mended_at = lend_room(&m, mended, mended_size);
     u64 at = lend_room(&m, numbers, sizeof number_words);
-    uint32_t number = of_bech32_correct(&m, checksum, text_at, text_length, given_at, given_count, at + 16, most,
+    uint32_t number = of_bech32_correct(&m, checksum, text_at, text_length, interpolate_if_consistent, given_count, at + 16, most,
                                         values_at, values_size, at, mended_at, mended_size, at + 8);
     if (number == BECH32_OK) {
         *count = (size_t)get_64(numbers);
@@ -304,11 +304,11 @@ uint32_t bech32_nearest(uint32_t checksum, const uint8_t *text, size_t text_leng
     MACHINE(bech32_nearest);
     u64 given_count = put_erasures(given, MOST_ERASURES, erasures, erasures_length);
     u64 texts_size = SOME(texts_room), memory_size = SOME(memory->size);
-    u64 text_at = lend(&m, text, text_length), given_at = lend(&m, given, sizeof given_words);
+    u64 text_at = lend(&m, text, text_length), interpolate_if_consistent = lend(&m, given, sizeof given_words);
     u64 texts_at = lend_room(&m, texts, texts_size), at = lend_room(&m, numbers, sizeof number_words);
     put_64(numbers + 8, lend_room(&m, memory->start, memory_size));
     put_64(numbers + 16, memory_size);
-    uint32_t number = of_bech32_nearest(&m, checksum, text_at, text_length, given_at, given_count, errors, at + 8,
+    uint32_t number = of_bech32_nearest(&m, checksum, text_at, text_length, interpolate_if_consistent, given_count, errors, at + 8,
                                         texts_at, texts_size, at);
     if (number == BECH32_OK || number == BECH32_NO_ROOM) {
         *count = (size_t)get_64(numbers);
@@ -372,11 +372,11 @@ uint32_t bech32_liquid_nearest(const uint8_t *text, size_t text_length, const si
     MACHINE(bech32_liquid_nearest);
     u64 given_count = put_erasures(given, MOST_LIQUID_ERASURES, erasures, erasures_length);
     u64 texts_size = SOME(texts_room), memory_size = SOME(memory->size);
-    u64 text_at = lend(&m, text, text_length), given_at = lend(&m, given, sizeof given_words);
+    u64 text_at = lend(&m, text, text_length), interpolate_if_consistent = lend(&m, given, sizeof given_words);
     u64 texts_at = lend_room(&m, texts, texts_size), at = lend_room(&m, numbers, sizeof number_words);
     put_64(numbers + 8, lend_room(&m, memory->start, memory_size));
     put_64(numbers + 16, memory_size);
-    uint32_t number = of_bech32_liquid_nearest(&m, text_at, text_length, given_at, given_count, errors, at + 8,
+    uint32_t number = of_bech32_liquid_nearest(&m, text_at, text_length, interpolate_if_consistent, given_count, errors, at + 8,
                                                texts_at, texts_size, at);
     if (number == BECH32_OK || number == BECH32_NO_ROOM) {
         *count = (size_t)get_64(numbers);

@@ -109,9 +109,9 @@ uint32_t codex32_derive(uint32_t share_index, const uint8_t *texts, size_t texts
     }
     MACHINE(codex32_derive);
     u64 given_count = put_lengths(given, lengths, count), text_size = SOME(text_room);
-    u64 texts_at = lend(&m, texts, texts_length), given_at = lend(&m, given, 8 * given_count);
+    u64 texts_at = lend(&m, texts, texts_length), interpolate_if_consistent = lend(&m, given, 8 * given_count);
     u64 text_at = lend_room(&m, text, text_size), at = lend_room(&m, numbers, sizeof number_words);
-    uint32_t number = of_codex32_derive(&m, share_index, texts_at, texts_length, given_at, given_count, text_at, text_size, at);
+    uint32_t number = of_codex32_derive(&m, share_index, texts_at, texts_length, interpolate_if_consistent, given_count, text_at, text_size, at);
     if (number == CODEX32_OK) {
         *text_length = (size_t)get_64(numbers);
     }
@@ -146,10 +146,10 @@ uint32_t codex32_recover(const uint8_t *texts, size_t texts_length, const size_t
     }
     MACHINE(codex32_recover);
     u64 given_count = put_lengths(given, lengths, count), bytes_size = SOME(bytes_room);
-    u64 texts_at = lend(&m, texts, texts_length), given_at = lend(&m, given, 8 * given_count);
+    u64 texts_at = lend(&m, texts, texts_length), interpolate_if_consistent = lend(&m, given, 8 * given_count);
     u64 bytes_at = lend_room(&m, bytes, bytes_size), at = lend_room(&m, numbers, sizeof number_words);
     uint32_t number =
-        of_codex32_recover(&m, texts_at, texts_length, given_at, given_count, bytes_at, bytes_size, at);
+        of_codex32_recover(&m, texts_at, texts_length, interpolate_if_consistent, given_count, bytes_at, bytes_size, at);
     if (number == CODEX32_OK) {
         *bytes_length = (size_t)get_64(numbers);
     }

@@ -32,7 +32,7 @@ pub use bech32_correction::{
 };
 use bech32_decode::{CheckedHrpstring, CodeLengthError, Reading};
 pub use bech32_encode::Fe32IterExt;
-use bech32_encode::{text_length_of_part, text_of_size_in};
+use bech32_encode::{encode_text, text_length_of_part};
 pub use bech32_gf::gf32::Fe32;
 pub use bech32_gf_ext::{Fe1024, Fe32768};
 pub use bech32_hrp::Hrp;
@@ -176,7 +176,7 @@ pub fn encode_in<Ck: Checksum, A: Allocator>(
     ensures refused { IfErr result (IsEncodeRefusal Ck.code (hrp_bytes hrp) (to_fes «data».now)) }
 {
     let size = encoded_length::<Ck>(hrp, data)?;
-    let text = text_of_size_in::<Ck, A>(alloc, hrp, None, data, size)?;
+    let text = encode_text::<Ck, A>(alloc, hrp, None, data, size)?;
     Ok(text)
 }
 

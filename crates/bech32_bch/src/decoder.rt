@@ -76,7 +76,7 @@ fn listed<E: Extension, A: Allocator + Copy>(
 /// # Errors
 ///
 /// If memory runs out. For at most six roots nothing is allocated.
-pub fn candidate<E: Extension, A: Allocator + Copy>(
+pub fn decode_errors<E: Extension, A: Allocator + Copy>(
     alloc: A,
     roots: Roots<E>,
     window: usize,

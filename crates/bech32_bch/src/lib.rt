@@ -13,7 +13,7 @@ mod syndromes;
 mod terms;
 mod values;
 
-pub use self::decoder::{Roots, candidate};
+pub use self::decoder::{Roots, decode_errors};
 pub use self::listing::{highest_location, value_at_location};
 pub use self::locations::contains;
 pub use self::short_vec::ShortVec;

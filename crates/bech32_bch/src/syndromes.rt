@@ -4,7 +4,7 @@ ghost use Rattle.std.specs.Prelude.{◌≡◌, length, IfOk, IsOk};
 ghost use Rattle.bech32_bch.specs.Search.{AreSyndromes};
 ghost use Rattle.bech32_poly.specs.FieldVec.{FitsInPlace};
 
-use bech32_poly::arithmetic::{Arithmetic, Extension, embedded_value};
+use bech32_poly::arithmetic::{Arithmetic, Extension, evaluate_in_extension};
 use bech32_poly::fieldvec::FieldVec;
 use std::alloc::{AllocError, Allocator};
 
@@ -24,7 +24,7 @@ pub(crate) fn syndromes<E: Extension, A: Allocator + Copy>(
     let mut list = FieldVec::new(alloc);
     let mut x = base.power(start);
     for _ in 0..count {
-        list.push(embedded_value(residue, x))?;
+        list.push(evaluate_in_extension(residue, x))?;
         x = base.times(x);
     }
     Ok(list)

@@ -12,7 +12,7 @@ use bech32_calls::refusal::Refusal;
 use bech32_more_calls::columns::check::check_many;
 use bech32_more_calls::columns::column::Column;
 use bech32_more_calls::columns::decode::{Addresses, decode_many};
-use bech32_more_calls::columns::encode::{Programs, encode_many};
+use bech32_more_calls::columns::encode::{ProgramRows, encode_many};
 use bech32_more_calls::columns::validity::put_validity;
 
 // Tells how many rows are put, and returns the number of the call: 92 where not all are.
@@ -124,7 +124,7 @@ pub extern "C" fn bech32_segwit_encode_many(
         × (text_offsets.new ≡ text_offsets.old) × (texts.new ≡ texts.old)
         × (done.new ≡ done.old) }
 {
-    let rows = Programs {
+    let rows = ProgramRows {
         column: *programs,
         first,
         hrp,

@@ -19,7 +19,7 @@ use crate::checksum::{BECH32, BECH32M};
 use crate::input::read;
 use crate::refusal::Refusal;
 use bech32::{Bech32, Bech32m, Fe32};
-use bech32_correction::{CorrectsInPlace, found_of_read, mend, searched_of_read};
+use bech32_correction::{CorrectsInPlace, lookup_listing, mend, search_listing};
 use bech32_decode::Reading;
 
 /// Puts the locations and the values of a listing at the fronts of buffers that have room for them.
@@ -120,7 +120,7 @@ fn corrected_by_search<Ck: CorrectsInPlace>(
     ensures same { OnErr result ((locations.new ≡ locations.old) × (values.new ≡ values.old)
         × (mended.new ≡ mended.old)) }
 {
-    match searched_of_read(reading, erasures) {
+    match search_listing(reading, erasures) {
         Some(listing) => { put_correction(listing.as_slice(), text, locations, values, mended) }
         None => Err(Refusal::NoCorrection),
     }
@@ -149,7 +149,7 @@ fn corrected_by<Ck: CorrectsInPlace>(
     if reading.has_target() {
         return put_correction(&[], text, locations, values, mended);
     }
-    match found_of_read(&reading, erasures) {
+    match lookup_listing(&reading, erasures) {
         Some(Some(found)) => put_correction(found.as_slice(), text, locations, values, mended),
         Some(None) => Err(Refusal::NoCorrection),
         None => corrected_by_search(&reading, text, erasures, locations, values, mended),

@@ -62,7 +62,7 @@ fn read_in_steps<Ck: Checksum>(bytes: &[u8]) -> Result<Reading<'_, Ck>, Refusal>
         (λ r. r.text.now ≡ bytes.now)
         (λ e. IsTextFault bytes.now e) }
 {
-    let reading = Reading::in_steps(text_of(bytes)?)?;
+    let reading = Reading::with_first_fault(text_of(bytes)?)?;
     Ok(reading)
 }
 

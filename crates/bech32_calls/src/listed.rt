@@ -9,7 +9,7 @@ ghost use Rattle.bech32_calls.specs.Listing.{EndsWell, EndsWith, LacksMemory, Li
 
 use crate::refusal::Refusal;
 use bech32_encode::put_at_front;
-use bech32_suggest::HasText;
+use bech32_suggest::AsText;
 use caller_memory::{Lent, Memory};
 use std::alloc::Allocator;
 
@@ -23,7 +23,7 @@ pub struct Listed {
 }
 
 /// A text that is listed with a number of its kind and a place.
-pub trait Row: HasText {
+pub trait Row: AsText {
     ghost kind_of: { Self → ℕ };
 
     ghost place_of: { Self → ℕ };
@@ -39,7 +39,7 @@ pub trait Row: HasText {
 
 // Puts texts, one behind another, at the front of a buffer, as many whole ones as fit, and returns
 // how many.
-fn put_texts<T: HasText>(rows: &[T], texts: &mut [u8]) -> usize
+fn put_texts<T: AsText>(rows: &[T], texts: &mut [u8]) -> usize
     ensures most { IsMost
         (FirstFit T.text_of rows.now (length texts.old)) (length rows.now) result }
     ensures put { IsPut (flat_map T.text_of (take result rows.now)) texts.old texts.new
@@ -59,7 +59,7 @@ fn put_texts<T: HasText>(rows: &[T], texts: &mut [u8]) -> usize
 
 // Puts the numbers of rows' kinds, and their places, at the fronts of buffers that have room for
 // them.
-fn put_marks<R: Row>(rows: &[R], kinds: &mut [u8], places: &mut [usize])
+fn put_kinds_and_places<R: Row>(rows: &[R], kinds: &mut [u8], places: &mut [usize])
     requires kinds { length rows.now ≤ length kinds.old }
     requires places { length rows.now ≤ length places.old }
     ensures kinds { IsPut (map R.kind_of rows.now) kinds.old kinds.new (length rows.now) }
@@ -80,7 +80,7 @@ fn put_rows<R: Row>(rows: &[R], kinds: &mut [u8], places: &mut [usize], texts: &
 {
     let most = rows.len().min(kinds.len()).min(places.len());
     let put = put_texts(&rows[..most], texts);
-    put_marks(&rows[..put], kinds, places);
+    put_kinds_and_places(&rows[..put], kinds, places);
     put
 }
 
@@ -100,7 +100,7 @@ fn listed_of(count: usize, put: usize) -> Listed
 /// # Errors
 ///
 /// [`Refusal::Memory`] where it did not: nothing is put then.
-pub fn list_texts<T: HasText + Drop, A: Allocator, E: Drop>(
+pub fn list_texts<T: AsText + Drop, A: Allocator, E: Drop>(
     found: Result<Vec<T, A>, E>,
     texts: &mut [u8],
 ) -> Result<Listed, Refusal>
@@ -150,7 +150,7 @@ pub fn list_rows<R: Row + Drop, A: Allocator, E: Drop>(
 /// # Errors
 ///
 /// [`Refusal::Memory`] where it does not come back; else that of the call.
-pub fn end_with(
+pub fn give_memory_back(
     lent: Lent,
     memory: &mut Memory,
     listed: Result<Listed, Refusal>,

@@ -10,11 +10,11 @@ ghost use Rattle.bech32_calls.specs.NearEdits.{IsEditsFault, IsEditsFaultOrKept,
 
 use crate::checksum::{BECH32, BECH32M, validate_checksum};
 use crate::input::read;
-use crate::listed::{Listed, Row, end_with, list_rows};
+use crate::listed::{Listed, Row, give_memory_back, list_rows};
 use crate::refusal::Refusal;
 use bech32::{Bech32, Bech32m, Change, NearEdit};
 use bech32_decode::Reading;
-use bech32_near::edits::near_edits_of_read;
+use bech32_near::edits::near_edits_of_reading;
 use caller_memory::{Lent, Memory};
 use std::alloc::{AllocError, Allocator};
 
@@ -42,8 +42,8 @@ fn edits_by<'a, A: Allocator>(
         (λ _. ForChecksum checksum (λ code. HasNearEdit code reading.now.text.now)) }
 {
     match checksum {
-        BECH32 => near_edits_of_read::<Bech32, &A>(alloc, &reading.by_bech32()),
-        BECH32M => near_edits_of_read::<Bech32m, &A>(alloc, reading),
+        BECH32 => near_edits_of_reading::<Bech32, &A>(alloc, &reading.by_bech32()),
+        BECH32M => near_edits_of_reading::<Bech32m, &A>(alloc, reading),
         _ => unreachable!(),
     }
 }
@@ -119,5 +119,5 @@ pub fn put_near_edits(
         locations,
         texts,
     );
-    end_with(lent, memory, listed)
+    give_memory_back(lent, memory, listed)
 }

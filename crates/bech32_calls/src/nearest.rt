@@ -12,11 +12,11 @@ ghost use Rattle.bech32_calls.specs.Nearest.{IsNearFaultOrKept, IsRead, PutsFirs
 
 use crate::checksum::{BECH32, BECH32M, validate_checksum};
 use crate::input::read;
-use crate::listed::{Listed, end_with, list_texts};
+use crate::listed::{Listed, give_memory_back, list_texts};
 use crate::refusal::Refusal;
 use bech32::{Bech32, Bech32m, Mended};
 use bech32_decode::Reading;
-use bech32_near::nearest_of_read;
+use bech32_near::nearest_to_reading;
 use caller_memory::{Lent, Memory};
 use std::alloc::{AllocError, Allocator};
 
@@ -67,11 +67,11 @@ fn near_by<'a, A: Allocator>(
     match checksum {
         BECH32 => {
             let by_bech32 = reading.by_bech32();
-            let near = nearest_of_read::<Bech32, &A>(alloc, &by_bech32, given, errors)?;
+            let near = nearest_to_reading::<Bech32, &A>(alloc, &by_bech32, given, errors)?;
             Ok(near.texts)
         }
         BECH32M => {
-            let near = nearest_of_read::<Bech32m, &A>(alloc, reading, given, errors)?;
+            let near = nearest_to_reading::<Bech32m, &A>(alloc, reading, given, errors)?;
             Ok(near.texts)
         }
         _ => unreachable!(),
@@ -132,5 +132,5 @@ pub fn put_nearest(
         near_by(&lent.arena(), checksum, &reading, given, errors),
         texts,
     );
-    end_with(lent, memory, listed)
+    give_memory_back(lent, memory, listed)
 }

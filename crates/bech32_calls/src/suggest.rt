@@ -7,9 +7,9 @@ ghost use Rattle.bech32_calls.specs.Listing.{ReturnsMemory, IfAllPut, IfNotAllPu
 ghost use Rattle.bech32_calls.specs.Suggest.{IsSuggestFaultOrKept, IsTyped, LacksRoomForSuggestions, PutsFirstSuggestions, PutsSuggestions};
 
 use crate::input::{part_of, text_of};
-use crate::listed::{Listed, Row, end_with, list_rows};
+use crate::listed::{Listed, Row, give_memory_back, list_rows};
 use crate::refusal::Refusal;
-use bech32_suggest::{MOST_TYPED, Mending, Suggestion, read_typed, suggest_of_read};
+use bech32_suggest::{MAX_TYPED_LENGTH, Mending, Suggestion, read_typed, suggest_for_reading};
 use caller_memory::{Lent, Memory};
 use std::alloc::Allocator;
 
@@ -76,14 +76,14 @@ pub fn put_suggestions(
 {
     let hrp = part_of(part)?;
     let text = text_of(bytes)?;
-    let mut buffer = [0u8; MOST_TYPED];
+    let mut buffer = [0u8; MAX_TYPED_LENGTH];
     let read = read_typed(text, &mut buffer)?;
     let lent = Lent::new(memory.take());
     let listed = list_rows(
-        suggest_of_read(&lent.arena(), text, read, &hrp),
+        suggest_for_reading(&lent.arena(), text, read, &hrp),
         kinds,
         places,
         texts,
     );
-    end_with(lent, memory, listed)
+    give_memory_back(lent, memory, listed)
 }

@@ -172,12 +172,12 @@ impl Checksum for Bech32 {
     }
 
     #[inline]
-    fn values_or_none(residue: &[Fe32], locations: &[usize]) -> Option<Option<[Fe32; 3]>> {
+    fn lookup_values(residue: &[Fe32], locations: &[usize]) -> Option<Option<[Fe32; 3]>> {
         values_by_rows(residue, locations)
     }
 
     #[inline]
-    fn one_beside(residue: &[Fe32], location: usize, window: usize) -> Beside {
+    fn lookup_error_beside(residue: &[Fe32], location: usize, window: usize) -> Beside {
         one_beside_by_rows(residue, location, window)
     }
 
@@ -268,13 +268,13 @@ impl Checksum for Bech32m {
     }
 
     #[inline]
-    fn values_or_none(residue: &[Fe32], locations: &[usize]) -> Option<Option<[Fe32; 3]>> {
-        Bech32::values_or_none(residue, locations)
+    fn lookup_values(residue: &[Fe32], locations: &[usize]) -> Option<Option<[Fe32; 3]>> {
+        Bech32::lookup_values(residue, locations)
     }
 
     #[inline]
-    fn one_beside(residue: &[Fe32], location: usize, window: usize) -> Beside {
-        Bech32::one_beside(residue, location, window)
+    fn lookup_error_beside(residue: &[Fe32], location: usize, window: usize) -> Beside {
+        Bech32::lookup_error_beside(residue, location, window)
     }
 
     ghost packing_laws = { packed.retargeted codes.bech32_keeps (Prim.omega arith) };

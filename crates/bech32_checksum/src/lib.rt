@@ -213,7 +213,7 @@ pub trait Checksum {
     /// The provided one says nothing, and correctors then search. Whoever defines a checksum may
     /// read tables.
     #[inline]
-    fn values_or_none(_residue: &[Fe32], _locations: &[usize]) -> Option<Option<[Fe32; 3]>>
+    fn lookup_values(_residue: &[Fe32], _locations: &[usize]) -> Option<Option<[Fe32; 3]>>
         ensures { MatchOption result ⊤
             (λ found. AreOnlyValues code.generator _residue.now _locations.now found) }
     {
@@ -221,13 +221,13 @@ pub trait Checksum {
     }
 
     /// The elements at up to three locations that together leave a residue, where
-    /// [`Self::values_or_none`] finds them; `None` says nothing.
+    /// [`Self::lookup_values`] finds them; `None` says nothing.
     #[inline]
     fn values_at(residue: &[Fe32], locations: &[usize]) -> Option<[Fe32; 3]>
         ensures { MatchOption result ⊤
             (λ values. IsLeftBy code.generator residue.now (valued locations.now values)) }
     {
-        Self::values_or_none(residue, locations)?
+        Self::lookup_values(residue, locations)?
     }
 
     /// The element at a location and the single error below a window that together leave a residue,
@@ -236,7 +236,7 @@ pub trait Checksum {
     /// The provided one says nothing, and correctors then search. Whoever defines a checksum may
     /// read tables.
     #[inline]
-    fn one_beside(
+    fn lookup_error_beside(
         _residue: &[Fe32],
         _location: usize,
         _window: usize,

@@ -221,8 +221,8 @@ answered code bound text given corrector None is none = none_listed code bound t
 answered code bound text given corrector (Some listing) is only = listed code bound text given corrector listing is only
 
 -- a listing, or that there is none, as what is said of the text
-pub said_of : (code : Code) (bound : ℕ) (text given : List ℕ) (answer : Option (List (ℕ × Fe32))) (said : Correction (List (ℕ × Fe32)) (Unit {0}))
+pub reply_of : (code : Code) (bound : ℕ) (text given : List ℕ) (answer : Option (List (ℕ × Fe32))) (said : Correction (List (ℕ × Fe32)) (Unit {0}))
     → MatchOption answer (HasNoListing code bound text given) (λ listing. IsListingOf code bound text given listing)
     → MatchOption answer (said ≡ Unexplained tt) (λ listing. said ≡ Mended listing) → IsListedInPlace code bound text given said
-said_of code bound text given None said none is = rw is (none, tt)
-said_of code bound text given (Some listing) said only is = rw is only
+reply_of code bound text given None said none is = rw is (none, tt)
+reply_of code bound text given (Some listing) said only is = rw is only

@@ -15,7 +15,7 @@ use crate::errors::{ErrorIterator, ShortIter};
 use crate::given::{listing_below, listing_given};
 use bech32_bch::{ShortVec, locators_of};
 use bech32_checksum::Checksum;
-use bech32_finders::{bound, extended, residue_without};
+use bech32_finders::{bound, extended, residue_after_removing};
 use bech32_gf::gf32::Fe32;
 use bech32_poly::fieldvec::FieldVec;
 use bech32_refusals::MAX_DEGREE;
@@ -297,7 +297,7 @@ impl<Ck: Checksum, A: Allocator + Copy> Corrector<Ck, A> {
         ensures in_place { FitsInPlace (length self.now.erasures) → IsOk result }
     {
         let mut left = self.clone()?;
-        left.residue = residue_without::<Ck>(&self.residue, error);
+        left.residue = residue_after_removing::<Ck>(&self.residue, error);
         Ok(left)
     }
 }

@@ -13,7 +13,7 @@ use crate::erasures::distinct_below;
 use bech32_bch::{ShortVec, locators_of};
 use bech32_checksum::Checksum;
 use bech32_finders::{
-    bound, correct_by_roots, correct_erased, correct_single, erased_below, is_filled,
+    bound, correct_by_roots, correct_erased, correct_single, is_filled, lookup_erasures,
 };
 use bech32_gf::gf32::Fe32;
 use bech32_poly::fieldvec::FieldVec;
@@ -36,7 +36,7 @@ fn looked_up<Ck: Checksum, A: Allocator + Copy>(
         (record { residue = residue.now; window = window; erasures = erasures.now }) answer)) }
     ensures in_place { IsOk result }
 {
-    match erased_below::<Ck>(window, residue, erasures) {
+    match lookup_erasures::<Ck>(window, residue, erasures) {
         Some(Some(listing)) => {
             let copy = ShortVec::from_slice(alloc, listing.as_slice())?;
             Ok(Some(Some(copy)))

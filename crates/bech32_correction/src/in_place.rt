@@ -17,7 +17,7 @@ use crate::listing_given;
 use crate::no_memory::NoMemory;
 use bech32_checksum::{Bech32, Bech32m, CorrectingChecksum};
 use bech32_decode::Reading;
-use bech32_finders::{ShortListing, erased_below, single_below};
+use bech32_finders::{ShortListing, lookup_erasures, lookup_single_error};
 use bech32_gf::gf32::Fe32;
 use bech32_refusals::CheckedHrpstringError;
 use std::alloc::AllocError;
@@ -99,7 +99,7 @@ fn error_of_read<Ck: CorrectsInPlace>(reading: &Reading<'_, Ck>) -> Option<Optio
         (λ error. IsListingOf Ck.code Ck.bound reading.now.text.now [] (error ∷ []))) }
 {
     let residue = reading.error_residue();
-    single_below::<Ck>(reading.data_part.len(), &residue[..Ck::CHECKSUM_LENGTH])
+    lookup_single_error::<Ck>(reading.data_part.len(), &residue[..Ck::CHECKSUM_LENGTH])
 }
 
 // The listing at one to three erasures, and an error beside a single one, that mends a text that
@@ -120,7 +120,7 @@ fn erased_of_read<Ck: CorrectsInPlace>(
         (λ listing. IsListingOf Ck.code Ck.bound reading.now.text.now erasures.now listing)) }
 {
     let residue = reading.error_residue();
-    erased_below::<Ck>(
+    lookup_erasures::<Ck>(
         reading.data_part.len(),
         &residue[..Ck::CHECKSUM_LENGTH],
         erasures,
@@ -131,7 +131,7 @@ fn erased_of_read<Ck: CorrectsInPlace>(
 /// where the given locations are erasures, if the checksum looks it up; the outer `None` says
 /// nothing.
 #[inline(always)]
-pub fn found_of_read<Ck: CorrectsInPlace>(
+pub fn lookup_listing<Ck: CorrectsInPlace>(
     reading: &Reading<'_, Ck>,
     erasures: &[usize],
 ) -> Option<Option<ShortListing>>
@@ -166,7 +166,7 @@ fn listed(found: &ShortListing) -> Listing<NoMemory>
 /// The listing that mends a text that was read, and that the checksum refuses for its residue,
 /// where the given locations are erasures, by a search. It takes no memory.
 #[inline(always)]
-pub fn searched_of_read<Ck: CorrectsInPlace>(
+pub fn search_listing<Ck: CorrectsInPlace>(
     reading: &Reading<'_, Ck>,
     erasures: &[usize],
 ) -> Option<Listing<NoMemory>>
@@ -199,10 +199,10 @@ fn listing_of_read<Ck: CorrectsInPlace>(
         (HasNoListing Ck.code Ck.bound reading.now.text.now erasures.now)
         (λ listing. IsListingOf Ck.code Ck.bound reading.now.text.now erasures.now listing) }
 {
-    match found_of_read(reading, erasures) {
+    match lookup_listing(reading, erasures) {
         Some(Some(found)) => Some(listed(&found)),
         Some(None) => None,
-        None => searched_of_read(reading, erasures),
+        None => search_listing(reading, erasures),
     }
 }
 

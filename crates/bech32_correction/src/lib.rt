@@ -24,7 +24,7 @@ pub use self::error::CorrectError;
 pub use self::errors::ErrorIterator;
 pub use self::given::listing_given;
 pub use self::in_place::{
-    CorrectsInPlace, bech32_listing, bech32m_listing, found_of_read, searched_of_read,
+    CorrectsInPlace, bech32_listing, bech32m_listing, lookup_listing, search_listing,
 };
 pub use self::mending::{mend, mended_in};
 pub use self::no_memory::NoMemory;

@@ -127,7 +127,7 @@ impl<'s, Ck: Checksum> Reading<'s, Ck> {
     {
         match Self::of(text.as_bytes()) {
             Some(reading) => Ok(reading),
-            None => Self::in_steps(text),
+            None => Self::with_first_fault(text),
         }
     }
 
@@ -139,7 +139,7 @@ impl<'s, Ck: Checksum> Reading<'s, Ck> {
     /// Those of [`Self::new`].
     // In line, and each step out of line: what a text is refused with is moved once.
     #[inline(always)]
-    pub fn in_steps(text: &'s str) -> Result<Self, UncheckedHrpstringError>
+    pub fn with_first_fault(text: &'s str) -> Result<Self, UncheckedHrpstringError>
         ensures value { IfOk result (λ r. r.text.now ≡ text.now) }
         ensures refused { IsRefusedAsText text.now result }
         ensures accepts { IsOk result ↔ IsInGrammar text.now }

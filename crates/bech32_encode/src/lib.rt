@@ -36,8 +36,8 @@ pub use front::put_at_front;
 pub use pieces::TextInPieces;
 use std::marker::PhantomData;
 pub use text::{
-    length_with_version, put_front_of_text, put_text_of_bytes, put_text_of_part, text_in,
-    text_length, text_length_of_part, text_of_size_in,
+    encode_text, length_with_version, put_front_of_text, put_text_of_bytes, put_text_of_part,
+    text_in, text_length, text_length_of_part,
 };
 pub use texts::CharIter;
 pub use unique::encoded_text_is_unique;

@@ -137,7 +137,7 @@ pub fn text_in<Ck: Checksum, A: Allocator>(
         (option_to_list version ++ to_fes «data».now) (string_bytes s)) }
 {
     let size = length_with_version::<Ck>(&hrp, version, data.len());
-    text_of_size_in::<Ck, A>(alloc, hrp, version, data, size)
+    encode_text::<Ck, A>(alloc, hrp, version, data, size)
 }
 
 /// The text that [`text_in`] gives, where its length is known.
@@ -145,7 +145,7 @@ pub fn text_in<Ck: Checksum, A: Allocator>(
 /// # Errors
 ///
 /// When out of memory.
-pub fn text_of_size_in<Ck: Checksum, A: Allocator>(
+pub fn encode_text<Ck: Checksum, A: Allocator>(
     alloc: A,
     hrp: Hrp,
     version: Option<Fe32>,

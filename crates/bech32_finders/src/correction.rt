@@ -7,8 +7,8 @@ ghost use Rattle.bech32_bch.specs.Search.{locators};
 ghost use Rattle.bech32_gf.specs.Fe32 as fe32;
 ghost use Rattle.bech32_finders.specs.Question.{IsAnswerTo};
 
-use crate::{is_same, listed_engine};
-use bech32_bch::{Roots, ShortVec, candidate};
+use crate::{listed_engine, row_equals};
+use bech32_bch::{Roots, ShortVec, decode_errors};
 use bech32_checksum::Checksum;
 use bech32_gf::gf32::Fe32;
 use bech32_poly::fieldvec::FieldVec;
@@ -37,7 +37,7 @@ fn has_residue<Ck: Checksum>(listing: &[(usize, Fe32)], residue: &[Fe32]) -> boo
     ensures { IsTrue result ↔ HasRemainder fe32.ops Ck.code.generator residue.now listing.now }
 {
     let engine = listed_engine::<Ck>(listing);
-    is_same(engine.residue(), residue)
+    row_equals(engine.residue(), residue)
 }
 
 /// The errors below the window, and the elements at the erasures, that explain the error residue,
@@ -67,7 +67,7 @@ pub fn correct_by_roots<Ck: Checksum, A: Allocator + Copy>(
         start: Ck::ROOT_EXPONENTS_START,
         count: bound::<Ck>(),
     };
-    let Some(listing) = candidate(alloc, roots, window, residue, erasures, known)? else {
+    let Some(listing) = decode_errors(alloc, roots, window, residue, erasures, known)? else {
         return Ok(None);
     };
     if has_residue::<Ck>(listing.as_slice(), residue) {

@@ -77,7 +77,7 @@ pub(crate) fn trimmed(residue: &[Fe32], size: usize) -> Option<&[Fe32]>
 }
 
 /// Whether a packed row has the coefficients of a list.
-pub fn is_same<R: PackedFe32>(row: &R, list: &[Fe32]) -> bool
+pub fn row_equals<R: PackedFe32>(row: &R, list: &[Fe32]) -> bool
     requires { HasDigits R.WIDTH (R.number row.now) }
     ensures { IsTrue result
         ↔ ((n : ℕ) → digit_of (R.number row.now) n ≡ coefficient fe32.ops list.now n) }
@@ -92,7 +92,10 @@ pub fn is_same<R: PackedFe32>(row: &R, list: &[Fe32]) -> bool
 }
 
 /// What is left of an error residue where one error is taken off; an element is its own negative.
-pub fn residue_without<Ck: Checksum>(residue: &[Fe32], error: (usize, Fe32)) -> [Fe32; MAX_DEGREE]
+pub fn residue_after_removing<Ck: Checksum>(
+    residue: &[Fe32],
+    error: (usize, Fe32),
+) -> [Fe32; MAX_DEGREE]
     requires { length residue.now ≤ 25 }
     ensures { IsTakenOff fe32.ops Ck.code.generator residue.now error result }
 {

@@ -14,8 +14,10 @@ mod single;
 
 pub use self::carried::residue_error_of;
 pub use self::correction::{bound, correct_by_roots, is_filled};
-pub use self::division::{is_same, listed_engine, residue_without};
+pub use self::division::{listed_engine, residue_after_removing, row_equals};
 pub use self::erased::correct_erased;
 pub use self::erasures::extended;
-pub use self::looked_up::{ShortListing, beside_below, erased_below, single_below};
+pub use self::looked_up::{
+    ShortListing, lookup_erasures, lookup_error_beside_erasure, lookup_single_error,
+};
 pub use self::single::correct_single;

@@ -56,7 +56,10 @@ impl ShortListing {
 /// there are no erasures and the bound is that of one error, if the checksum has a way of its own
 /// to find it; the outer `None` says nothing.
 #[inline(always)]
-pub fn single_below<Ck: Checksum>(window: usize, residue: &[Fe32]) -> Option<Option<(usize, Fe32)>>
+pub fn lookup_single_error<Ck: Checksum>(
+    window: usize,
+    residue: &[Fe32],
+) -> Option<Option<(usize, Fe32)>>
     requires lawful { Ck.lawful × (0 < length Ck.code.generator) }
     requires within { window ≤ Ck.CODE_LENGTH }
     requires bound { Ck.bound ≡ 3 }
@@ -91,7 +94,7 @@ fn two_below<Ck: Checksum>(
     if one >= window || two >= window || one == two {
         return None;
     }
-    let Some(values) = Ck::values_or_none(residue, given)? else {
+    let Some(values) = Ck::lookup_values(residue, given)? else {
         return Some(None);
     };
     Some(Some(ShortListing {
@@ -118,7 +121,7 @@ fn three_below<Ck: Checksum>(
     if one == two || one == three || two == three {
         return None;
     }
-    let Some(values) = Ck::values_or_none(residue, given)? else {
+    let Some(values) = Ck::lookup_values(residue, given)? else {
         return Some(None);
     };
     Some(Some(ShortListing {
@@ -151,7 +154,7 @@ fn error_beside<Ck: Checksum>(
         (λ p. (p.1.0 < window) × ((p.1.0 ≢ erasure) × ((p.1.1 ≢ fe32.zero)
         × HasRemainder fe32.ops Ck.code.generator residue.now ((erasure, p.0) ∷ p.1 ∷ []))))) }
 {
-    let Some(found) = Ck::one_beside(residue, erasure, window)? else {
+    let Some(found) = Ck::lookup_error_beside(residue, erasure, window)? else {
         return Some(None);
     };
     let (location, value) = found.1;
@@ -165,7 +168,7 @@ fn error_beside<Ck: Checksum>(
 /// where the bound is three, if the checksum has a way of its own to find them; the outer `None`
 /// says nothing.
 #[inline(always)]
-pub fn beside_below<Ck: Checksum>(
+pub fn lookup_error_beside_erasure<Ck: Checksum>(
     window: usize,
     residue: &[Fe32],
     erasure: usize,
@@ -198,7 +201,7 @@ pub fn beside_below<Ck: Checksum>(
 /// an error residue, where the bound is three, if the checksum has a way of its own to find them;
 /// the outer `None` says nothing.
 #[inline(always)]
-pub fn erased_below<Ck: Checksum>(
+pub fn lookup_erasures<Ck: Checksum>(
     window: usize,
     residue: &[Fe32],
     given: &[usize],
@@ -211,7 +214,7 @@ pub fn erased_below<Ck: Checksum>(
         (record { residue = residue.now; window = window; erasures = given.now }) found) }
 {
     match given.len() {
-        1 => beside_below::<Ck>(window, residue, given[0]),
+        1 => lookup_error_beside_erasure::<Ck>(window, residue, given[0]),
         2 => two_below::<Ck>(window, residue, given),
         3 => three_below::<Ck>(window, residue, given),
         _ => None,

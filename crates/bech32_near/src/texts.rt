@@ -77,7 +77,7 @@ fn text_of<'s, Ck: Checksum>(reading: &Reading<'s, Ck>) -> &'s str
 /// # Errors
 ///
 /// Out of memory, as of [`nearest`].
-pub fn nearest_of_read<Ck: CorrectingChecksum, A: Allocator + Copy>(
+pub fn nearest_to_reading<Ck: CorrectingChecksum, A: Allocator + Copy>(
     alloc: A,
     reading: &Reading<'_, Ck>,
     erasures: &[usize],
@@ -126,7 +126,7 @@ pub fn nearest_in<Ck: CorrectingChecksum, A: Allocator + Copy>(
 {
     let reading = Reading::<Ck>::new(text)?;
     reading.validate_lengths()?;
-    Ok(nearest_of_read::<Ck, A>(alloc, &reading, erasures, errors)?)
+    Ok(nearest_to_reading::<Ck, A>(alloc, &reading, erasures, errors)?)
 }
 
 /// All texts that the checksum accepts, and that differ from this one in at most `errors`

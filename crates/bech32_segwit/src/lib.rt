@@ -24,7 +24,7 @@ use bech32_decode::segwit::{
 };
 pub use bech32_decode::segwit::{VERSION_0, VERSION_1};
 use bech32_decode::{SegwitCodeLengthError, SegwitHrpstring, SegwitHrpstringError};
-use bech32_encode::{text_length_of_part, text_of_size_in};
+use bech32_encode::{encode_text, text_length_of_part};
 use bech32_gf::gf32::Fe32;
 use bech32_hrp::Hrp;
 pub use error::{DecodeError, EncodeError};
@@ -174,9 +174,9 @@ fn text_of_version_in<A: Allocator>(
         (λ s. IsEncodedText (segwit_code version) (hrp_bytes hrp) elements (string_bytes s)) }
 {
     if version == VERSION_0 {
-        text_of_size_in::<Bech32, A>(alloc, hrp, Some(version), program, size)
+        encode_text::<Bech32, A>(alloc, hrp, Some(version), program, size)
     } else {
-        text_of_size_in::<Bech32m, A>(alloc, hrp, Some(version), program, size)
+        encode_text::<Bech32m, A>(alloc, hrp, Some(version), program, size)
     }
 }
 

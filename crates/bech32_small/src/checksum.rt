@@ -16,13 +16,13 @@ pub const LONG_BECH32M: u32 = 4;
 pub const TARGET: u32 = 1;
 
 /// The remainder of a right text by Bech32m, packed.
-pub const TARGET_M: u32 = 0x2bc830a3;
+pub const BECH32M_TARGET: u32 = 0x2bc830a3;
 
 /// The most characters of a text.
-pub const MOST: usize = 1023;
+pub const MAX_TEXT_LENGTH: usize = 1023;
 
 /// The most characters of a long text.
-pub const MOST_LONG: usize = 7089;
+pub const MAX_LONG_TEXT_LENGTH: usize = 7089;
 
 /// The characters of a checksum.
 pub const LENGTH: usize = 6;

@@ -10,7 +10,9 @@ ghost use Rattle.bech32_calls.specs.Correct.{IsCorrectFault, IsMending, PutsMend
 ghost use Rattle.bech32_calls.specs.Faults.{IsNumberOf};
 ghost use Rattle.bech32_small.specs.Target.{IsTargetOf, PacksTarget};
 
-use crate::checksum::{BAD_NUMBER, BECH32, BECH32M, NO_CORRECTION, NO_ROOM, TARGET, TARGET_M};
+use crate::checksum::{
+    BAD_NUMBER, BECH32, BECH32M, BECH32M_TARGET, NO_CORRECTION, NO_ROOM, TARGET,
+};
 use crate::input::read;
 use crate::search::{
     Found, erasures_of, error_below, error_beside, no_errors, values_at_three, values_at_two,
@@ -28,7 +30,7 @@ fn target_of(checksum: u32) -> Option<u32>
 {
     match checksum {
         BECH32 => Some(TARGET),
-        BECH32M => Some(TARGET_M),
+        BECH32M => Some(BECH32M_TARGET),
         _ => None,
     }
 }

@@ -14,8 +14,9 @@ ghost use Rattle.bech32_calls.specs.Faults.{IsNumberOf};
 ghost use Rattle.bech32_small.specs.Target.{PacksTarget};
 
 use crate::checksum::{
-    BAD_NUMBER, BECH32, BECH32M, LENGTH, LONG_BECH32, LONG_BECH32M, MOST, MOST_LONG, NO_CHECKSUM,
-    NO_ROOM, TARGET, TARGET_M, TEXT_TOO_LONG, WRONG_CHECKSUM,
+    BAD_NUMBER, BECH32, BECH32M, BECH32M_TARGET, LENGTH, LONG_BECH32, LONG_BECH32M,
+    MAX_LONG_TEXT_LENGTH, MAX_TEXT_LENGTH, NO_CHECKSUM, NO_ROOM, TARGET, TEXT_TOO_LONG,
+    WRONG_CHECKSUM,
 };
 use crate::elements::put_bytes;
 use crate::input::read;
@@ -111,10 +112,10 @@ pub fn checked_by(checksum: u32, bytes: &[u8]) -> Result<(usize, usize), u32>
         (λ n. IsNumberOf (IsFaultOfTexts checksum (IsCheckFault bytes.now)) n) }
 {
     match checksum {
-        BECH32 => checked(TARGET, MOST, bytes),
-        BECH32M => checked(TARGET_M, MOST, bytes),
-        LONG_BECH32 => checked(TARGET, MOST_LONG, bytes),
-        LONG_BECH32M => checked(TARGET_M, MOST_LONG, bytes),
+        BECH32 => checked(TARGET, MAX_TEXT_LENGTH, bytes),
+        BECH32M => checked(BECH32M_TARGET, MAX_TEXT_LENGTH, bytes),
+        LONG_BECH32 => checked(TARGET, MAX_LONG_TEXT_LENGTH, bytes),
+        LONG_BECH32M => checked(BECH32M_TARGET, MAX_LONG_TEXT_LENGTH, bytes),
         _ => Err(BAD_NUMBER),
     }
 }

@@ -8,8 +8,8 @@ ghost use Rattle.bech32_calls.specs.Faults.{IsNumberOf};
 ghost use Rattle.bech32_small.specs.Target.{PacksTarget};
 
 use crate::checksum::{
-    BAD_NUMBER, BECH32, BECH32M, ENCODED_TOO_LONG, LONG_BECH32, LONG_BECH32M, MOST, MOST_LONG,
-    NO_ROOM, TARGET, TARGET_M,
+    BAD_NUMBER, BECH32, BECH32M, BECH32M_TARGET, ENCODED_TOO_LONG, LONG_BECH32, LONG_BECH32M,
+    MAX_LONG_TEXT_LENGTH, MAX_TEXT_LENGTH, NO_ROOM, TARGET,
 };
 use crate::input::test_part;
 use crate::text::put_in_room;
@@ -61,10 +61,10 @@ pub fn encoded_by(checksum: u32, hrp: &[u8], bytes: &[u8], text: &mut [u8]) -> R
     ensures same { OnErr result (text.new ≡ text.old) }
 {
     match checksum {
-        BECH32 => encoded(TARGET, MOST, hrp, bytes, text),
-        BECH32M => encoded(TARGET_M, MOST, hrp, bytes, text),
-        LONG_BECH32 => encoded(TARGET, MOST_LONG, hrp, bytes, text),
-        LONG_BECH32M => encoded(TARGET_M, MOST_LONG, hrp, bytes, text),
+        BECH32 => encoded(TARGET, MAX_TEXT_LENGTH, hrp, bytes, text),
+        BECH32M => encoded(BECH32M_TARGET, MAX_TEXT_LENGTH, hrp, bytes, text),
+        LONG_BECH32 => encoded(TARGET, MAX_LONG_TEXT_LENGTH, hrp, bytes, text),
+        LONG_BECH32M => encoded(BECH32M_TARGET, MAX_LONG_TEXT_LENGTH, hrp, bytes, text),
         _ => Err(BAD_NUMBER),
     }
 }

@@ -8,7 +8,7 @@ ghost use Rattle.bech32_calls.specs.Segwit.{PutsAddress, IsSegwitEncodeFault};
 ghost use Rattle.bech32_calls.specs.Segwit.{PutsProgram, IsSegwitDecodeFault};
 ghost use Rattle.bech32_small.specs.Target.{PacksTarget};
 
-use crate::checksum::{ADDRESS_TOO_LONG, BAD_NUMBER, NO_ROOM, NOT_UTF8, TARGET, TARGET_M};
+use crate::checksum::{ADDRESS_TOO_LONG, BAD_NUMBER, BECH32M_TARGET, NO_ROOM, NOT_UTF8, TARGET};
 use crate::decode::put_parts;
 use crate::input::{element_of, read, test_part, text_of};
 use crate::text::put_in_room;
@@ -25,7 +25,7 @@ fn target_of(version: Fe32) -> u32
     if version == VERSION_0 {
         TARGET
     } else {
-        TARGET_M
+        BECH32M_TARGET
     }
 }
 

@@ -15,7 +15,7 @@ use bech32_near::edits::NearEdit;
 use std::alloc::{AllocError, Allocator};
 
 /// What has a text, among what is listed.
-pub trait HasText {
+pub trait AsText {
     ghost text_of: { Self → List ℕ };
 
     /// The text.
@@ -23,7 +23,7 @@ pub trait HasText {
         ensures { result.now ≡ text_of self.now };
 }
 
-impl<L, A: Allocator> HasText for MendedBy<L, String<A>> {
+impl<L, A: Allocator> AsText for MendedBy<L, String<A>> {
     ghost use Rattle.std.specs.Prelude.{string_bytes};
 
     ghost text_of = { λ m. string_bytes m.text };
@@ -34,7 +34,7 @@ impl<L, A: Allocator> HasText for MendedBy<L, String<A>> {
     }
 }
 
-impl<A: Allocator> HasText for NearEdit<String<A>> {
+impl<A: Allocator> AsText for NearEdit<String<A>> {
     ghost use Rattle.std.specs.Prelude.{string_bytes};
 
     ghost text_of = { λ m. string_bytes m.text };
@@ -45,7 +45,7 @@ impl<A: Allocator> HasText for NearEdit<String<A>> {
     }
 }
 
-impl<A: Allocator> HasText for Suggestion<String<A>> {
+impl<A: Allocator> AsText for Suggestion<String<A>> {
     ghost use Rattle.std.specs.Prelude.{string_bytes};
 
     ghost text_of = { λ s. string_bytes s.text };
@@ -152,7 +152,7 @@ fn push_one<A: Allocator + Copy>(
 }
 
 /// Adds each text that may have been meant, and does not stand among those that are found.
-pub(crate) fn push_each<A: Allocator + Copy, T: HasText>(
+pub(crate) fn push_each<A: Allocator + Copy, T: AsText>(
     alloc: A,
     wanted: &Wanted<'_>,
     texts: &[T],

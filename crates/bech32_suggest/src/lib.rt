@@ -11,7 +11,7 @@ mod suggestions;
 mod tried;
 mod typed;
 
-pub use self::kept::HasText;
+pub use self::kept::AsText;
 pub use self::mendings::{Mending, Suggestion};
-pub use self::suggestions::{suggest, suggest_in, suggest_of_read, validate_typed};
-pub use self::typed::{MOST_TYPED, read_typed};
+pub use self::suggestions::{suggest, suggest_for_reading, suggest_in, validate_typed};
+pub use self::typed::{MAX_TYPED_LENGTH, read_typed};

@@ -11,7 +11,7 @@ use crate::chance::errors_for;
 use crate::kept::Wanted;
 use crate::mendings::Suggestion;
 use crate::tried::push_found;
-use crate::typed::{MOST_TYPED, count_unreadable, read_typed, unreadable_in};
+use crate::typed::{MAX_TYPED_LENGTH, count_unreadable, read_typed, unreadable_in};
 use bech32_checksum::Bech32m;
 use bech32_decode::{Reading, UncheckedHrpstringError};
 use bech32_hrp::Hrp;
@@ -78,7 +78,7 @@ pub fn validate_typed(typed: &str) -> Result<(), UncheckedHrpstringError>
         (λ _. (91 < length typed.now) ⊎ IsInGrammar (as_read typed.now))
         (λ e. (length typed.now ≤ 91) × (text_refusal (as_read typed.now) ≡ Some e)) }
 {
-    let mut buffer = [0u8; MOST_TYPED];
+    let mut buffer = [0u8; MAX_TYPED_LENGTH];
     read_typed(typed, &mut buffer)?;
     Ok(())
 }
@@ -89,7 +89,7 @@ pub fn validate_typed(typed: &str) -> Result<(), UncheckedHrpstringError>
 /// # Errors
 ///
 /// Out of memory, as of [`suggest`].
-pub fn suggest_of_read<A: Allocator + Copy>(
+pub fn suggest_for_reading<A: Allocator + Copy>(
     alloc: A,
     typed: &str,
     read: Option<Reading<'_, Bech32m>>,
@@ -124,9 +124,9 @@ pub fn suggest_in<A: Allocator + Copy>(
         (map (λ s. (string_bytes s.text, (s.mending, s.place))) found.items))
         (λ e. IsSuggestRefusal typed.now e) }
 {
-    let mut buffer = [0u8; MOST_TYPED];
+    let mut buffer = [0u8; MAX_TYPED_LENGTH];
     let read = read_typed(typed, &mut buffer)?;
-    Ok(suggest_of_read(alloc, typed, read, &hrp)?)
+    Ok(suggest_for_reading(alloc, typed, read, &hrp)?)
 }
 
 /// The segwit addresses of a network that someone who typed a text may have meant ("did you mean"):

@@ -10,8 +10,8 @@ use crate::mendings::Suggestion;
 use bech32_checksum::{Bech32, Bech32m, Checksum};
 use bech32_correction::Mended;
 use bech32_decode::Reading;
-use bech32_near::edits::near_edits_of_read;
-use bech32_near::nearest_of_read;
+use bech32_near::edits::near_edits_of_reading;
+use bech32_near::nearest_to_reading;
 use std::alloc::{AllocError, Allocator};
 
 // The texts near one that was read: by Bech32m, or by Bech32, whose generator is the same.
@@ -28,10 +28,10 @@ fn near_by<'a, A: Allocator>(
 {
     let (unread, errors) = (wanted.unread, wanted.errors);
     if is_bech32m {
-        let near = nearest_of_read::<Bech32m, &A>(alloc, reading, unread, errors)?;
+        let near = nearest_to_reading::<Bech32m, &A>(alloc, reading, unread, errors)?;
         return Ok(near.texts);
     }
-    let near = nearest_of_read::<Bech32, &A>(alloc, &reading.by_bech32(), unread, errors)?;
+    let near = nearest_to_reading::<Bech32, &A>(alloc, &reading.by_bech32(), unread, errors)?;
     Ok(near.texts)
 }
 
@@ -66,7 +66,7 @@ fn push_edits<Ck: Checksum, A: Allocator + Copy>(
         (map (λ s. (string_bytes s.text, (s.mending, s.place))) found.old.items)
         (map (λ s. (string_bytes s.text, (s.mending, s.place))) found.new.items)) }
 {
-    let edited = near_edits_of_read::<Ck, &A>(alloc, reading)?;
+    let edited = near_edits_of_reading::<Ck, &A>(alloc, reading)?;
     push_each(*alloc, wanted, edited.as_slice(), found)
 }
 

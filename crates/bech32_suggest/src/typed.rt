@@ -9,7 +9,7 @@ use bech32_decode::{Reading, UncheckedHrpstringError};
 use std::alloc::{AllocError, Allocator};
 
 /// The most characters of a text for which others are tried. An address has at most 90.
-pub const MOST_TYPED: usize = 91;
+pub const MAX_TYPED_LENGTH: usize = 91;
 
 // A character as it is read: `?`, which stands for one that cannot be read, as `0`.
 #[inline]
@@ -38,7 +38,7 @@ fn put_read(typed: &[u8], buffer: &mut [u8])
 /// That of [`Reading::new`] for the text with each `?` read as `0`, if it has at most 91 bytes.
 pub fn read_typed<'b>(
     typed: &str,
-    buffer: &'b mut [u8; MOST_TYPED],
+    buffer: &'b mut [u8; MAX_TYPED_LENGTH],
 ) -> Result<Option<Reading<'b, Bech32m>>, UncheckedHrpstringError>
     ensures said { MatchResult result
         (λ _. (91 < length typed.now) ⊎ IsInGrammar (as_read typed.now))
@@ -46,7 +46,7 @@ pub fn read_typed<'b>(
     ensures read { IfOk result (λ read. MatchOption read (91 < length typed.now)
         (λ r. (length typed.now ≤ 91) × (r.text.now ≡ as_read typed.now))) }
 {
-    if typed.len() > MOST_TYPED {
+    if typed.len() > MAX_TYPED_LENGTH {
         return Ok(None);
     }
     put_read(typed.as_bytes(), buffer);

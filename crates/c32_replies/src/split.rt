@@ -54,7 +54,7 @@ fn put_shares(words: &SplitWords<'_>, texts: &mut [u8]) -> Result<(usize, usize)
 }
 
 // What is said of `count` shares of `size` characters each: `ok`, and each with a space before it.
-fn said_of<A: Allocator>(
+fn reply_of<A: Allocator>(
     alloc: A,
     texts: &[u8],
     count: usize,
@@ -86,7 +86,7 @@ impl<A: Allocator + Copy> Commands<A> {
     {
         let mut texts = [0u8; TEXTS_ROOM];
         let (count, size) = put_shares(words, &mut texts)?;
-        let Ok(said) = said_of(self.alloc, &texts[..count * size], count, size) else {
+        let Ok(said) = reply_of(self.alloc, &texts[..count * size], count, size) else {
             return Err(Refusal::Text(Codex32Error::Memory));
         };
         match append_any(out, said.as_slice()) {

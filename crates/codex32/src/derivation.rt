@@ -14,8 +14,8 @@ use crate::error::DeriveError;
 use crate::share::Share;
 use crate::threshold::Threshold;
 use bech32::Fe32;
-use codex32_steady::shares::agreement::given_at;
-use codex32_steady::shares::once::are_indices_once;
+use codex32_steady::shares::agreement::interpolate_if_consistent;
+use codex32_steady::shares::distinct_indices::are_indices_distinct;
 use codex32_steady::texts::text::{put_spelled, spelled_in};
 use std::alloc::{Allocator, Global};
 
@@ -68,7 +68,7 @@ fn validate_set(shares: &[Share<'_>], index: Fe32) -> Result<usize, DeriveError>
     if !are_of_set(first, shares) {
         return Err(DeriveError::OtherSet);
     }
-    if !are_indices_once(shares) {
+    if !are_indices_distinct(shares) {
         return Err(DeriveError::IndexTwice);
     }
     if first.threshold().number() == 0 && index != Fe32::S {
@@ -95,7 +95,7 @@ fn put_derived(room: &mut [Fe32], shares: &[Share<'_>], index: Fe32) -> Result<u
 {
     let count = validate_set(shares, index)?;
     let size = shares[0].size();
-    if !given_at(&mut room[..size], shares, count, index) {
+    if !interpolate_if_consistent(&mut room[..size], shares, count, index) {
         return Err(DeriveError::Contradiction);
     }
     Ok(size)

@@ -30,7 +30,7 @@ pub(crate) fn validate_outline(
         (λ e. first_of (codex32_length_fault (may_have lengths) count)
         (part_fault hrp.now) ≡ Some e) }
 {
-    if !lengths.have(count) {
+    if !lengths.allows(count) {
         return Err(Codex32Error::Length);
     }
     if !is_of_codex32(hrp) {
@@ -68,7 +68,7 @@ pub fn data_part_of(lengths: Lengths, text: &str) -> Result<&[u8], Codex32Error>
     let Some(data_part) = plain_data_part(text.as_bytes()) else {
         return outlined(lengths, text);
     };
-    if !lengths.have(text.len()) {
+    if !lengths.allows(text.len()) {
         return Err(Codex32Error::Length);
     }
     Ok(data_part)

@@ -16,7 +16,7 @@ pub enum Lengths {
 
 impl Lengths {
     /// Whether a text may have this many characters.
-    pub fn have(self, count: usize) -> bool
+    pub fn allows(self, count: usize) -> bool
         ensures { result ≡ may_have self count }
     {
         let short = 48 <= count && count <= 93;

@@ -12,7 +12,7 @@ ghost use Rattle.codex32.specs.laws.LongCodeLaws.{long_words};
 
 use bech32::primitives::gf32_ext::Fe32Ext;
 use bech32::{Fe32, Fe1024};
-use codex32_steady::chosen_sum;
+use codex32_steady::xor_selected;
 
 // The generator of codex32, packed, and its products with 2, 4, 8 and 16.
 pub(crate) const WORDS: [u128; 5] = [
@@ -48,7 +48,7 @@ pub(crate) fn product_with(element: Fe32) -> u128
     ensures row { IsRowOf 13 (scale fe32.ops element codex32.generator) result }
     ensures words { result ≡ sum_of_words (λ i. get_or words i 0) 5 (value element) }
 {
-    chosen_sum(WORDS, element.to_u8())
+    xor_selected(WORDS, element.to_u8())
 }
 
 // The same of the generator of long strings.
@@ -57,5 +57,5 @@ pub(crate) fn long_product_with(element: Fe32) -> u128
     ensures row { IsRowOf 15 (scale fe32.ops element long_codex32.generator) result }
     ensures words { result ≡ sum_of_words (λ i. get_or long_words i 0) 5 (value element) }
 {
-    chosen_sum(LONG_WORDS, element.to_u8())
+    xor_selected(LONG_WORDS, element.to_u8())
 }

@@ -23,8 +23,8 @@ use bech32_gf::gf32::Fe32;
 use codex32::numbers::{derive_error_number, header_error_number};
 use codex32::{DeriveError, Header, Identifier, Threshold};
 use codex32_calls::input::share_index_of;
-use codex32_steady::shares::agreement::given_at;
-use codex32_steady::shares::once::are_indices_once;
+use codex32_steady::shares::agreement::interpolate_if_consistent;
+use codex32_steady::shares::distinct_indices::are_indices_distinct;
 use codex32_steady::texts::text::put_spelled;
 
 // The most strings of a set.
@@ -124,7 +124,7 @@ fn validate_set(parts: &[Part<'_>], index: Fe32) -> Result<usize, DeriveError>
     if !are_of_set(first, parts) {
         return Err(DeriveError::OtherSet);
     }
-    if !are_indices_once(parts) {
+    if !are_indices_distinct(parts) {
         return Err(DeriveError::IndexTwice);
     }
     let threshold = first.header.threshold();
@@ -152,7 +152,7 @@ fn put_elements(room: &mut [Fe32], parts: &[Part<'_>], index: Fe32) -> Result<us
 {
     let count = validate_set(parts, index)?;
     let size = parts[0].characters.len();
-    if !given_at(&mut room[..size], parts, count, index) {
+    if !interpolate_if_consistent(&mut room[..size], parts, count, index) {
         return Err(DeriveError::Contradiction);
     }
     Ok(size)

@@ -36,7 +36,7 @@ const NO_ROOM: u32 = 92;
 
 /// What is told of a string.
 #[derive(Clone, Copy)]
-pub struct Told {
+pub struct ShareParts {
     /// Its threshold.
     pub threshold: u32,
     /// The characters of its identifier, in lower case.
@@ -135,13 +135,13 @@ fn payload_of(data_part: &[u8]) -> &[u8]
 }
 
 // What the first characters of a string tell.
-fn told_of(data_part: &[u8], count: usize) -> Told
+fn told_of(data_part: &[u8], count: usize) -> ShareParts
     requires { (s : AShare) × (characters_of_share s ≡ data_part.now) }
     ensures told { (s : AShare) → characters_of_share s ≡ data_part.now
         → IsTold (header_of_share s) result.threshold result.identifier result.share_index }
     ensures count { result.count ≡ count }
 {
-    Told {
+    ShareParts {
         threshold: u32::from(data_part[0] - b'0'),
         identifier: [
             in_lower_case(data_part[1]),
@@ -160,7 +160,7 @@ fn told_of(data_part: &[u8], count: usize) -> Told
 ///
 /// The number of the first of: what is wrong with the text; more than four bits that are left over
 /// behind the bytes; a buffer that is too small.
-pub fn put_share(text: &[u8], bytes: &mut [u8]) -> Result<Told, u32>
+pub fn put_share(text: &[u8], bytes: &mut [u8]) -> Result<ShareParts, u32>
     ensures value { IfOk result (λ t. PutsShare text.now t.threshold t.identifier t.share_index
         bytes.old bytes.new t.count) }
     ensures accepts { CanReadShare text.now (length bytes.old) → IsOk result }

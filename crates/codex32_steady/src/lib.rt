@@ -136,7 +136,7 @@ fn mask_at(masks: u64, place: u8) -> u128
 /// Each mask is made of a byte that may have been any, for all that a compiler sees: of a single
 /// bit it makes a branch.
 #[inline]
-pub fn chosen_sum(words: [u128; 5], bits: u8) -> u128
+pub fn xor_selected(words: [u128; 5], bits: u8) -> u128
     requires { bits < 32 }
     ensures { result ≡ sum_of_words (λ i. get_or words i 0) 5 bits }
 {

@@ -3,8 +3,8 @@
 
 pub mod agreement;
 pub mod derive;
+pub mod distinct_indices;
 pub mod laws;
-pub mod once;
 pub mod share;
 pub mod text;
 pub mod weights;

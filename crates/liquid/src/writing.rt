@@ -10,7 +10,7 @@ ghost use Rattle.liquid.specs.Writing.{IsConfidentialEncodeRefusal, IsVersionAnd
 
 use crate::address::KEY_LENGTH;
 use crate::error::EncodeError;
-use bech32_encode::{put_text_of_part, text_length_of_part, text_of_size_in};
+use bech32_encode::{encode_text, put_text_of_part, text_length_of_part};
 use bech32_gf::gf32::Fe32;
 use bech32_hrp::Hrp;
 use bech32_refusals::segwit::{is_valid_witness_version, validate_witness_program_length};
@@ -113,6 +113,6 @@ pub fn encode_in<A: Allocator>(
     let (bytes, count) = payload_of(blinding_key, program);
     let size = address_length(hrp.as_bytes(), program.len());
     let payload = &bytes[..count];
-    let text = text_of_size_in::<Blech32, A>(alloc, hrp, Some(witness_version), payload, size)?;
+    let text = encode_text::<Blech32, A>(alloc, hrp, Some(witness_version), payload, size)?;
     Ok(text)
 }

@@ -39,7 +39,7 @@ pub fn push_found(
 }
 
 /// What is said of texts: `ok`, and what is said of each.
-pub fn said_of<T: Found>(alloc: Global, found: &[T]) -> Result<Vec<u8>, AllocError>
+pub fn reply_of<T: Found>(alloc: Global, found: &[T]) -> Result<Vec<u8>, AllocError>
     ensures { IfOk result (λ said. said.items ≡ codes "ok" ++ flat_map T.spelling found.now) }
 {
     let mut said = Vec::from_slice(alloc, b"ok")?;
@@ -64,7 +64,7 @@ pub fn append_found<T: Found>(alloc: Global, found: &[T], out: &mut Vec<u8>) -> 
         append(out, b"ok");
         return Ok(());
     }
-    let Ok(said) = said_of(alloc, found) else {
+    let Ok(said) = reply_of(alloc, found) else {
         return Err(NO_MEMORY);
     };
     match append_any(out, said.as_slice()) {

@@ -9,7 +9,7 @@ ghost use Rattle.mend.specs.Reply.{IsLiquidAnswer, IsNearTextsRefusal, SaysLiqui
 ghost use Rattle.mend.specs.Request.{liquid_errors_of_word};
 
 use crate::command::errors_in;
-use crate::found::said_of;
+use crate::found::reply_of;
 use crate::numbers::{BAD_WORD, NO_MEMORY};
 use bech32::{CorrectError, nearest};
 use bech32_more_calls::confidential::nearest::is_asked;
@@ -40,7 +40,7 @@ fn said_near(
         (λ e. IsNearTextsRefusal blech32_code text.now e) }
 {
     let near = nearest::<Blech32>(alloc, text, given, errors)?.texts;
-    Ok(said_of(alloc, near.as_slice())?)
+    Ok(reply_of(alloc, near.as_slice())?)
 }
 
 // Adds what is said of texts, or leaves all as it was and returns the number of the refusal.

@@ -9,7 +9,7 @@ ghost use Rattle.line_program.specs.Added.{AddsOrSaysNumber};
 ghost use Rattle.mend.specs.Reply.{IsNearTextsAnswer, IsNearTextsRefusal, SaysNear, most_said, said_of_more};
 
 use crate::command::errors_in;
-use crate::found::{Found, said_of};
+use crate::found::{Found, reply_of};
 use crate::numbers::{BAD_WORD, NO_MEMORY};
 use b32_replies::ChecksumName;
 use bech32::{Bech32, Bech32m, CorrectError, Mended};
@@ -78,9 +78,9 @@ fn said_of_first<T: Found>(alloc: Global, found: &[T]) -> Result<Vec<u8>, AllocE
         ++ said_of_more (drop most_said found.now))) }
 {
     if found.len() <= MOST_SAID {
-        return said_of(alloc, found);
+        return reply_of(alloc, found);
     }
-    let mut said = said_of(alloc, &found[..MOST_SAID])?;
+    let mut said = reply_of(alloc, &found[..MOST_SAID])?;
     said.extend_from_slice(b" more")?;
     Ok(said)
 }

@@ -13,7 +13,7 @@ use bech32_calls::segwit::encoded;
 
 /// Rows of a column of programs, and what they are encoded with.
 #[derive(Clone, Copy)]
-pub struct Programs<'a> {
+pub struct ProgramRows<'a> {
     /// The column.
     pub column: Column<'a>,
     /// The first row.
@@ -109,7 +109,7 @@ fn most_rows(count: usize, offsets: usize) -> usize
 /// less than 2^31 characters. Nothing, where there are no such rows, fewer versions, or the column
 /// has no layout: then it puts nothing.
 pub fn encode_many(
-    rows: &Programs<'_>,
+    rows: &ProgramRows<'_>,
     numbers: &mut [u8],
     offsets: &mut [u32],
     texts: &mut [u8],

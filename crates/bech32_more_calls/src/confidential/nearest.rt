@@ -16,11 +16,11 @@ ghost use Rattle.bech32_more_calls.specs.confidential.Nearest.{IsLiquidAsked, Is
 use bech32::Mended;
 use bech32_bch::{ShortVec, contains};
 use bech32_calls::input::read;
-use bech32_calls::listed::{Listed, end_with, list_texts};
+use bech32_calls::listed::{Listed, give_memory_back, list_texts};
 use bech32_calls::refusal::Refusal;
 use bech32_correction::NoMemory;
 use bech32_decode::Reading;
-use bech32_near::nearest_of_read;
+use bech32_near::nearest_to_reading;
 use caller_memory::{Lent, Memory};
 use liquid::Blech32;
 use std::alloc::{AllocError, Allocator};
@@ -110,7 +110,7 @@ fn near_to<'a, A: Allocator>(
         (map (λ m. (m.listing, string_bytes m.text)) near.items))
         (λ _. IsOutOfMemory blech32_code liquid_bound reading.now.text.now given.now errors) }
 {
-    let near = nearest_of_read::<Blech32, &A>(alloc, reading, given, errors)?;
+    let near = nearest_to_reading::<Blech32, &A>(alloc, reading, given, errors)?;
     Ok(near.texts)
 }
 
@@ -141,7 +141,7 @@ fn put_near(
 {
     let lent = Lent::new(memory.take());
     let listed = list_texts(near_to(&lent.arena(), reading, given, errors), texts);
-    end_with(lent, memory, listed)
+    give_memory_back(lent, memory, listed)
 }
 
 /// Puts all texts near to a mistyped one, by Blech32, at the front of a buffer, in lower case and

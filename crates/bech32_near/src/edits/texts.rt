@@ -108,7 +108,7 @@ fn edited_all<A: Allocator + Copy>(
 /// # Errors
 ///
 /// Out of memory, as of [`near_edits`].
-pub fn near_edits_of_read<Ck: Checksum, A: Allocator + Copy>(
+pub fn near_edits_of_reading<Ck: Checksum, A: Allocator + Copy>(
     alloc: A,
     reading: &Reading<'_, Ck>,
 ) -> Result<Vec<NearEdit<String<A>>, A>, AllocError>
@@ -137,7 +137,7 @@ pub fn near_edits_in<Ck: Checksum, A: Allocator + Copy>(
         (λ e. IsEditsRefusal Ck.code text.now e) }
 {
     let reading = Reading::<Ck>::new(text)?;
-    Ok(near_edits_of_read::<Ck, A>(alloc, &reading)?)
+    Ok(near_edits_of_reading::<Ck, A>(alloc, &reading)?)
 }
 
 /// All texts other than this one that one edit makes of it, and that the checksum accepts. An edit

@@ -160,7 +160,7 @@ impl<F: Copy + Default, A: Allocator + Copy> Clone for Polynomial<F, A> {
 pub fn evaluate<E: Extension, A: Allocator + Copy>(polynomial: &Polynomial<E::Base, A>, x: E) -> E
     ensures { result ≡ value_at E.ops x (map E.embed polynomial.now) }
 {
-    embedded_value(polynomial.as_slice(), x)
+    evaluate_in_extension(polynomial.as_slice(), x)
 }
 
 // How many coefficients there are without the zeros at the high end.
@@ -184,7 +184,7 @@ fn coefficient_of<F: Arithmetic>(p: &[F], n: usize) -> F
 }
 
 /// The value of a polynomial at `x`, by the coefficients from the highest one down.
-pub fn embedded_value<E: Extension>(p: &[E::Base], x: E) -> E
+pub fn evaluate_in_extension<E: Extension>(p: &[E::Base], x: E) -> E
     ensures { result ≡ value_at E.ops x (map E.embed p.now) }
 {
     let mut sum = E::zero();

@@ -8,23 +8,23 @@ use Rattle.bech32_segwit.proofs.text_of_version_in.Goals as goal
 
 pub returns-then-eq : goal.returns-then-eq
 returns-then-eq g c =
-    subst (λ (k : Code). IfOk c.text_of_size_in.result (λ s. IsEncodedText k (hrp_bytes c.args.hrp) (c.args.version ∷ to_fes c.args.program.now) (string_bytes s)))
-    (sym (ap (λ (b : Bool). cond b bech32 bech32m) (sym c.eq.ensures ∙ c.if-eq.true))) c.text_of_size_in.ensures
+    subst (λ (k : Code). IfOk c.encode_text.result (λ s. IsEncodedText k (hrp_bytes c.args.hrp) (c.args.version ∷ to_fes c.args.program.now) (string_bytes s)))
+    (sym (ap (λ (b : Bool). cond b bech32 bech32m) (sym c.eq.ensures ∙ c.if-eq.true))) c.encode_text.ensures
 
 pub returns-else-eq : goal.returns-else-eq
 returns-else-eq g c =
-    subst (λ (k : Code). IfOk c.text_of_size_in-else-eq.result (λ s. IsEncodedText k (hrp_bytes c.args.hrp) (c.args.version ∷ to_fes c.args.program.now) (string_bytes s)))
-    (sym (ap (λ (b : Bool). cond b bech32 bech32m) (sym c.eq.ensures ∙ c.if-eq.false))) c.text_of_size_in-else-eq.ensures
+    subst (λ (k : Code). IfOk c.encode_text-else-eq.result (λ s. IsEncodedText k (hrp_bytes c.args.hrp) (c.args.version ∷ to_fes c.args.program.now) (string_bytes s)))
+    (sym (ap (λ (b : Bool). cond b bech32 bech32m) (sym c.eq.ensures ∙ c.if-eq.false))) c.encode_text-else-eq.ensures
 
-pub text_of_size_in-requires : goal.text_of_size_in-requires
-text_of_size_in-requires g c =
+pub encode_text-requires : goal.encode_text-requires
+encode_text-requires g c =
     let elements = length-to_fes c.args.program.now in
     let size = c.requires.0 in
     let few = c.requires.1 in
     omega arith
 
-pub text_of_size_in-requires-else-eq : goal.text_of_size_in-requires-else-eq
-text_of_size_in-requires-else-eq g c =
+pub encode_text-requires-else-eq : goal.encode_text-requires-else-eq
+encode_text-requires-else-eq g c =
     let elements = length-to_fes c.args.program.now in
     let size = c.requires.0 in
     let few = c.requires.1 in

@@ -61,7 +61,12 @@ fn agree<T: IndexedText>(room: &mut [Fe32], shares: &[T], count: usize) -> bool
 /// Writes the elements of the text of the index x that shares give, where as many as `count` of
 /// them give the others, and returns whether they do not contradict each other: at each place, one
 /// polynomial of degree below that has the elements of all.
-pub fn given_at<T: IndexedText>(target: &mut [Fe32], shares: &[T], count: usize, x: Fe32) -> bool
+pub fn interpolate_if_consistent<T: IndexedText>(
+    target: &mut [Fe32],
+    shares: &[T],
+    count: usize,
+    x: Fe32,
+) -> bool
     requires within { count ≤ length shares.now }
     requires few { count ≤ 9 }
     requires shares { AreSharesAt T.index_of T.characters_of shares.now (length target.old) }

@@ -2,7 +2,7 @@
 
 use crate::tests::compare::same;
 use bech32_checksum::{Bech32, Bech32m, Checksum, Engine, PackedFe32};
-use bech32_correction::found_of_read;
+use bech32_correction::lookup_listing;
 use bech32_decode::Reading;
 use bech32_gf::gf32::Fe32;
 use std::process::Abort;
@@ -57,7 +57,7 @@ fn each_location_is_looked_up(rt: HostRuntime) {
 // Whether an error beside an element is looked up as these are, where something is said of them.
 fn is_found_beside<Ck: Checksum>(location: usize, other: usize) -> Option<bool> {
     let residue = left(&[(location, Fe32::Z), (other, Fe32::L)]);
-    let found = Ck::one_beside(&residue, location, 1023)?;
+    let found = Ck::lookup_error_beside(&residue, location, 1023)?;
     Some(found == Some((Fe32::Z, (other, Fe32::L))))
 }
 
@@ -85,7 +85,7 @@ type Beside<'a> = (&'a [(usize, Fe32)], usize, usize);
 // Fails where an error beside an element is looked up.
 fn finds_none_beside<Ck: Checksum>(rt: &impl Abort, rows: &[Beside<'_>]) {
     for &(values, location, window) in rows {
-        let found = Ck::one_beside(&left(values), location, window);
+        let found = Ck::lookup_error_beside(&left(values), location, window);
         same(rt, &(location, found == Some(None)), &(location, true));
     }
 }
@@ -132,7 +132,7 @@ fn is_found(text: &str, erasures: &[usize], want: &[(usize, Fe32)]) -> Option<bo
     if reading.has_target() {
         return None;
     }
-    match found_of_read(&reading, erasures)? {
+    match lookup_listing(&reading, erasures)? {
         Some(listing) => Some(listing.as_slice() == want),
         None => Some(want.is_empty()),
     }

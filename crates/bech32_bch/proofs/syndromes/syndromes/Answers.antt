@@ -20,10 +20,10 @@ unfolding power
 loop-preserved g c =
     let o = g.E.Arithmetic.ops in
     let n : ℕ = c.loop.counter in
-    let y = c.embedded_value.result in
+    let y = c.evaluate_in_extension.result in
     let items : c.push.new.self ≡ c.loop.list ++ (y ∷ []) = c.in_ok-push.ensures.ok in
     let next : c.args.start + (n + 1) ≡ suc (c.args.start + n) = omega arith in
-    let here : y ≡ value_in o g.E.Extension.embed c.args.residue.now (power o c.args.base (c.args.start + n)) = c.embedded_value.ensures ∙ ap (value_in o g.E.Extension.embed c.args.residue.now) c.loop.invariant.next in
+    let here : y ≡ value_in o g.E.Extension.embed c.args.residue.now (power o c.args.base (c.args.start + n)) = c.evaluate_in_extension.ensures ∙ ap (value_in o g.E.Extension.embed c.args.residue.now) c.loop.invariant.next in
     record {
       so_far = record {
         size = omega (arith, ap (λ u. length u) items, length-append c.loop.list (y ∷ []), c.loop.invariant.so_far.size);

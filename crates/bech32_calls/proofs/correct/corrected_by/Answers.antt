@@ -49,22 +49,22 @@ put_correction-requires-in-Some-Some g c = (
   c.args.erasures.now,
   g.Ck.Checksum.code,
   mended_by_listing c.args.text.now c.in_ok-reading.reading.text.now c.args.erasures.now c.in-Some-Some.found c.as_slice.result.now g.Ck.Checksum.code g.Ck.Checksum.bound
-      c.requires c.in_ok-reading.ensures (rw c.in-Some-Some.field-0-is at (sym c.as_slice.ensures.value)) (rw c.in-Some-Some.field-0-is at (rw c.in-Some-Some.is at c.found_of_read.ensures)),
+      c.requires c.in_ok-reading.ensures (rw c.in-Some-Some.field-0-is at (sym c.as_slice.ensures.value)) (rw c.in-Some-Some.field-0-is at (rw c.in-Some-Some.is at c.lookup_listing.ensures)),
 )
 
 pub returns-in-Some-Some-clause-value : goal.returns-in-Some-Some-clause-value
 returns-in-Some-Some-clause-value g c =
     c.put_correction-in-Some-Some.ensures.value c.args.erasures.now g.Ck.Checksum.code
     (mended_by_listing c.args.text.now c.in_ok-reading.reading.text.now c.args.erasures.now c.in-Some-Some.found c.as_slice.result.now g.Ck.Checksum.code g.Ck.Checksum.bound
-    c.requires c.in_ok-reading.ensures (rw c.in-Some-Some.field-0-is at (sym c.as_slice.ensures.value)) (rw c.in-Some-Some.field-0-is at (rw c.in-Some-Some.is at c.found_of_read.ensures)))
+    c.requires c.in_ok-reading.ensures (rw c.in-Some-Some.field-0-is at (sym c.as_slice.ensures.value)) (rw c.in-Some-Some.field-0-is at (rw c.in-Some-Some.is at c.lookup_listing.ensures)))
 
 pub returns-in-Some-Some-clause-refused : goal.returns-in-Some-Some-clause-refused
 returns-in-Some-Some-clause-refused g c =
     c.put_correction-in-Some-Some.ensures.refused c.args.erasures.now g.Ck.Checksum.code
     (mended_by_listing c.args.text.now c.in_ok-reading.reading.text.now c.args.erasures.now c.in-Some-Some.found c.as_slice.result.now g.Ck.Checksum.code g.Ck.Checksum.bound
-    c.requires c.in_ok-reading.ensures (rw c.in-Some-Some.field-0-is at (sym c.as_slice.ensures.value)) (rw c.in-Some-Some.field-0-is at (rw c.in-Some-Some.is at c.found_of_read.ensures)))
+    c.requires c.in_ok-reading.ensures (rw c.in-Some-Some.field-0-is at (sym c.as_slice.ensures.value)) (rw c.in-Some-Some.field-0-is at (rw c.in-Some-Some.is at c.lookup_listing.ensures)))
 
 pub returns-in-Some-None-clause-refused : goal.returns-in-Some-None-clause-refused
 returns-in-Some-None-clause-refused g c =
     no_listing_there c.args.text.now c.in_ok-reading.reading.text.now c.args.erasures.now g.Ck.Checksum.code g.Ck.Checksum.bound
-    c.requires c.in_ok-reading.ensures (rw c.in-Some-None.field-0-is at (rw c.in-Some-None.is at c.found_of_read.ensures))
+    c.requires c.in_ok-reading.ensures (rw c.in-Some-None.field-0-is at (rw c.in-Some-None.is at c.lookup_listing.ensures))

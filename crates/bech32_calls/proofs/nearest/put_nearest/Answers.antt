@@ -27,80 +27,80 @@ near_by-requires c = (search rules, c.in_ok-reading.ensures.1)
 
 pub returns-clause-all : goal.returns-clause-all
 returns-clause-all c =
-    let back : EndsWith c.args.memory.now c.end_with.new.memory c.list_texts-listed.result c.end_with.result = search rules in
+    let back : EndsWith c.args.memory.now c.give_memory_back.new.memory c.list_texts-listed.result c.give_memory_back.result = search rules in
     let few : c.args.errors ≤ 2 = omega arith in
     let t = c.in_ok-reading.reading.text.now in
     let listed = near_all c.args.checksum t c.args.given.now c.args.errors few c.args.texts.now c.list_texts-listed.new.texts c.list_texts-listed.result
     c.near_by.result (λ v. v.items) (λ m. (m.listing, string_bytes m.text)) c.near_by.ensures c.list_texts-listed.ensures in
-    ends_ok c.args.memory.now c.end_with.new.memory c.list_texts-listed.result c.end_with.result back _ (rw c.in_ok-reading.ensures.0 at listed)
+    ends_ok c.args.memory.now c.give_memory_back.new.memory c.list_texts-listed.result c.give_memory_back.result back _ (rw c.in_ok-reading.ensures.0 at listed)
 
 pub returns-clause-first : goal.returns-clause-first
 returns-clause-first c =
-    let back : EndsWith c.args.memory.now c.end_with.new.memory c.list_texts-listed.result c.end_with.result = search rules in
+    let back : EndsWith c.args.memory.now c.give_memory_back.new.memory c.list_texts-listed.result c.give_memory_back.result = search rules in
     let few : c.args.errors ≤ 2 = omega arith in
     let t = c.in_ok-reading.reading.text.now in
     let listed = near_first c.args.checksum t c.args.given.now c.args.errors few c.args.texts.now c.list_texts-listed.new.texts c.list_texts-listed.result
     c.near_by.result (λ v. v.items) (λ m. (m.listing, string_bytes m.text)) c.near_by.ensures c.list_texts-listed.ensures in
-    ends_ok c.args.memory.now c.end_with.new.memory c.list_texts-listed.result c.end_with.result back _ (rw c.in_ok-reading.ensures.0 at listed)
+    ends_ok c.args.memory.now c.give_memory_back.new.memory c.list_texts-listed.result c.give_memory_back.result back _ (rw c.in_ok-reading.ensures.0 at listed)
 
 pub returns-clause-few : goal.returns-clause-few
 returns-clause-few c none =
-    let back : EndsWith c.args.memory.now c.end_with.new.memory c.list_texts-listed.result c.end_with.result = search rules in
+    let back : EndsWith c.args.memory.now c.give_memory_back.new.memory c.list_texts-listed.result c.give_memory_back.result = search rules in
     let few : c.args.errors ≤ 2 = omega arith in
     let t = c.in_ok-reading.reading.text.now in
     let all = near_all c.args.checksum t c.args.given.now c.args.errors few c.args.texts.now c.list_texts-listed.new.texts c.list_texts-listed.result
     c.near_by.result (λ v. v.items) (λ m. (m.listing, string_bytes m.text)) c.near_by.ensures c.list_texts-listed.ensures in
     let first = near_first c.args.checksum t c.args.given.now c.args.errors few c.args.texts.now c.list_texts-listed.new.texts c.list_texts-listed.result
     c.near_by.result (λ v. v.items) (λ m. (m.listing, string_bytes m.text)) c.near_by.ensures c.list_texts-listed.ensures in
-    ends_ok c.args.memory.now c.end_with.new.memory c.list_texts-listed.result c.end_with.result back _
+    ends_ok c.args.memory.now c.give_memory_back.new.memory c.list_texts-listed.result c.give_memory_back.result back _
     (few_listed c.args.checksum c.args.bytes.now c.args.given.now c.args.errors c.args.texts.now c.list_texts-listed.new.texts none c.list_texts-listed.result
     (rw c.in_ok-reading.ensures.0 at all) (rw c.in_ok-reading.ensures.0 at first))
 
 pub returns-clause-room : goal.returns-clause-room
 returns-clause-room c =
-    let back : EndsWith c.args.memory.now c.end_with.new.memory c.list_texts-listed.result c.end_with.result = search rules in
+    let back : EndsWith c.args.memory.now c.give_memory_back.new.memory c.list_texts-listed.result c.give_memory_back.result = search rules in
     let few : c.args.errors ≤ 2 = omega arith in
     let t = c.in_ok-reading.reading.text.now in
     let listed = near_first c.args.checksum t c.args.given.now c.args.errors few c.args.texts.now c.list_texts-listed.new.texts c.list_texts-listed.result
     c.near_by.result (λ v. v.items) (λ m. (m.listing, string_bytes m.text)) c.near_by.ensures c.list_texts-listed.ensures in
-    ends_ok c.args.memory.now c.end_with.new.memory c.list_texts-listed.result c.end_with.result back _
+    ends_ok c.args.memory.now c.give_memory_back.new.memory c.list_texts-listed.result c.give_memory_back.result back _
     (long_listed c.args.checksum c.args.bytes.now c.args.given.now c.args.errors c.args.texts.now c.list_texts-listed.new.texts c.list_texts-listed.result
     (rw c.in_ok-reading.ensures.0 at listed))
 
 pub returns-clause-accepts : goal.returns-clause-accepts
 returns-clause-accepts c few is =
-    let back : EndsWith c.args.memory.now c.end_with.new.memory c.list_texts-listed.result c.end_with.result = search rules in
+    let back : EndsWith c.args.memory.now c.give_memory_back.new.memory c.list_texts-listed.result c.give_memory_back.result = search rules in
     let t = c.in_ok-reading.reading.text.now in
     let refused = near_refused c.args.checksum t c.args.given.now c.args.errors few c.args.texts.now c.list_texts-listed.new.texts c.list_texts-listed.result
     c.near_by.result (λ v. v.items) (λ m. (m.listing, string_bytes m.text)) c.near_by.ensures c.list_texts-listed.ensures in
-    ends_err c.args.memory.now c.end_with.new.memory c.list_texts-listed.result c.end_with.result back (λ e. e ≡ Memory)
+    ends_err c.args.memory.now c.give_memory_back.new.memory c.list_texts-listed.result c.give_memory_back.result back (λ e. e ≡ Memory)
     (err_more _ (λ e. e ≡ Memory) c.list_texts-listed.result (λ e h. read_memory_by c.args.checksum c.args.bytes.now c.args.given.now c.args.errors few is e (rw c.in_ok-reading.ensures.0 at h.0)) refused)
     (λ _. refl)
 
 pub returns-clause-refused : goal.returns-clause-refused
 returns-clause-refused c =
-    let back : EndsWith c.args.memory.now c.end_with.new.memory c.list_texts-listed.result c.end_with.result = search rules in
+    let back : EndsWith c.args.memory.now c.give_memory_back.new.memory c.list_texts-listed.result c.give_memory_back.result = search rules in
     let few : c.args.errors ≤ 2 = omega arith in
     let t = c.in_ok-reading.reading.text.now in
     let refused = near_refused c.args.checksum t c.args.given.now c.args.errors few c.args.texts.now c.list_texts-listed.new.texts c.list_texts-listed.result
     c.near_by.result (λ v. v.items) (λ m. (m.listing, string_bytes m.text)) c.near_by.ensures c.list_texts-listed.ensures in
     let r = c.in_ok-reading.reading in
-    let P = IsNearFaultOrKept c.args.checksum c.args.bytes.now c.args.given.now c.args.errors c.args.memory.now c.end_with.new.memory in
-    ends_err c.args.memory.now c.end_with.new.memory c.list_texts-listed.result c.end_with.result back P
+    let P = IsNearFaultOrKept c.args.checksum c.args.bytes.now c.args.given.now c.args.errors c.args.memory.now c.give_memory_back.new.memory in
+    ends_err c.args.memory.now c.give_memory_back.new.memory c.list_texts-listed.result c.give_memory_back.result back P
     (err_more _ P c.list_texts-listed.result (λ e h. inl (rw c.in_ok-reading.ensures.0 at h.0)) refused)
-    (λ kept. kept_of_read c.args.checksum c.args.bytes.now c.args.given.now c.args.errors c.args.memory.now c.end_with.new.memory r.hrp.now r.data_part.now few
+    (λ kept. kept_of_read c.args.checksum c.args.bytes.now c.args.given.now c.args.errors c.args.memory.now c.give_memory_back.new.memory r.hrp.now r.data_part.now few
     (rw c.in_ok-reading.ensures.0 at r.is_reading.grammar) (rw c.in_ok-reading.ensures.0 at c.in_ok-reading.ensures.1) kept)
 
 pub returns-clause-same : goal.returns-clause-same
 returns-clause-same c =
-    let back : EndsWith c.args.memory.now c.end_with.new.memory c.list_texts-listed.result c.end_with.result = search rules in
+    let back : EndsWith c.args.memory.now c.give_memory_back.new.memory c.list_texts-listed.result c.give_memory_back.result = search rules in
     let few : c.args.errors ≤ 2 = omega arith in
     let t = c.in_ok-reading.reading.text.now in
     let refused = near_refused c.args.checksum t c.args.given.now c.args.errors few c.args.texts.now c.list_texts-listed.new.texts c.list_texts-listed.result
     c.near_by.result (λ v. v.items) (λ m. (m.listing, string_bytes m.text)) c.near_by.ensures c.list_texts-listed.ensures in
-    ends_err c.args.memory.now c.end_with.new.memory c.list_texts-listed.result c.end_with.result back _ (err_more _ _ c.list_texts-listed.result (λ e h. inl h.1) refused) (λ kept. inr (refl, kept))
+    ends_err c.args.memory.now c.give_memory_back.new.memory c.list_texts-listed.result c.give_memory_back.result back _ (err_more _ _ c.list_texts-listed.result (λ e h. inl h.1) refused) (λ kept. inr (refl, kept))
 
 pub returns-clause-memory : goal.returns-clause-memory
 returns-clause-memory c =
-    let back : EndsWith c.args.memory.now c.end_with.new.memory c.list_texts-listed.result c.end_with.result = search rules in
-    returns_memory c.args.memory.now c.end_with.new.memory c.list_texts-listed.result c.end_with.result back
+    let back : EndsWith c.args.memory.now c.give_memory_back.new.memory c.list_texts-listed.result c.give_memory_back.result = search rules in
+    returns_memory c.args.memory.now c.give_memory_back.new.memory c.list_texts-listed.result c.give_memory_back.result back

@@ -37,69 +37,69 @@ returns-in_err-read-clause-refused c =
     let p = err_from_is_err_and c.from_residual-in_err-read.result c.from_residual-in_err-read.ensures.1 in
     rw p.1 (rw p.2 (inl (inr (c.in_ok-hrp.ensures.0, (c.in_ok-text.ensures.1, fault.0, fault.1)))))
 
-pub suggest_of_read-requires : goal.suggest_of_read-requires
-suggest_of_read-requires c = c.in_ok-read.ensures.read
+pub suggest_for_reading-requires : goal.suggest_for_reading-requires
+suggest_for_reading-requires c = c.in_ok-read.ensures.read
 
 pub returns-clause-all : goal.returns-clause-all
 returns-clause-all c =
-    let back : EndsWith c.args.memory.now c.end_with.new.memory c.list_rows-listed.result c.end_with.result = search rules in
+    let back : EndsWith c.args.memory.now c.give_memory_back.new.memory c.list_rows-listed.result c.give_memory_back.result = search rules in
     let t = c.in_ok-text.text.now in
     let hrp : IsHrp (hrp_bytes c.in_ok-hrp.hrp) = subst IsHrp (sym c.in_ok-hrp.ensures.1) c.in_ok-hrp.ensures.0 in
     let listed = suggested_all t (hrp_bytes c.in_ok-hrp.hrp) c.args.kinds.now c.list_rows-listed.new.kinds c.args.places.now c.list_rows-listed.new.places c.args.texts.now c.list_rows-listed.new.texts
-    hrp c.list_rows-listed.result c.suggest_of_read.result (λ v. v.items) (λ s. string_bytes s.text) (λ s. s.mending) (λ s. s.place) c.suggest_of_read.ensures c.list_rows-listed.ensures in
-    ends_ok c.args.memory.now c.end_with.new.memory c.list_rows-listed.result c.end_with.result back _ (rw (c.in_ok-hrp.ensures.1, c.in_ok-text.ensures.0) at listed)
+    hrp c.list_rows-listed.result c.suggest_for_reading.result (λ v. v.items) (λ s. string_bytes s.text) (λ s. s.mending) (λ s. s.place) c.suggest_for_reading.ensures c.list_rows-listed.ensures in
+    ends_ok c.args.memory.now c.give_memory_back.new.memory c.list_rows-listed.result c.give_memory_back.result back _ (rw (c.in_ok-hrp.ensures.1, c.in_ok-text.ensures.0) at listed)
 
 pub returns-clause-first : goal.returns-clause-first
 returns-clause-first c =
-    let back : EndsWith c.args.memory.now c.end_with.new.memory c.list_rows-listed.result c.end_with.result = search rules in
+    let back : EndsWith c.args.memory.now c.give_memory_back.new.memory c.list_rows-listed.result c.give_memory_back.result = search rules in
     let t = c.in_ok-text.text.now in
     let hrp : IsHrp (hrp_bytes c.in_ok-hrp.hrp) = subst IsHrp (sym c.in_ok-hrp.ensures.1) c.in_ok-hrp.ensures.0 in
     let listed = suggested_first t (hrp_bytes c.in_ok-hrp.hrp) c.args.kinds.now c.list_rows-listed.new.kinds c.args.places.now c.list_rows-listed.new.places c.args.texts.now c.list_rows-listed.new.texts
-    hrp c.list_rows-listed.result c.suggest_of_read.result (λ v. v.items) (λ s. string_bytes s.text) (λ s. s.mending) (λ s. s.place) c.suggest_of_read.ensures c.list_rows-listed.ensures in
-    ends_ok c.args.memory.now c.end_with.new.memory c.list_rows-listed.result c.end_with.result back _ (rw (c.in_ok-hrp.ensures.1, c.in_ok-text.ensures.0) at listed)
+    hrp c.list_rows-listed.result c.suggest_for_reading.result (λ v. v.items) (λ s. string_bytes s.text) (λ s. s.mending) (λ s. s.place) c.suggest_for_reading.ensures c.list_rows-listed.ensures in
+    ends_ok c.args.memory.now c.give_memory_back.new.memory c.list_rows-listed.result c.give_memory_back.result back _ (rw (c.in_ok-hrp.ensures.1, c.in_ok-text.ensures.0) at listed)
 
 pub returns-clause-room : goal.returns-clause-room
 returns-clause-room c =
-    let back : EndsWith c.args.memory.now c.end_with.new.memory c.list_rows-listed.result c.end_with.result = search rules in
+    let back : EndsWith c.args.memory.now c.give_memory_back.new.memory c.list_rows-listed.result c.give_memory_back.result = search rules in
     let t = c.in_ok-text.text.now in
     let hrp : IsHrp (hrp_bytes c.in_ok-hrp.hrp) = subst IsHrp (sym c.in_ok-hrp.ensures.1) c.in_ok-hrp.ensures.0 in
     let listed = suggested_first t (hrp_bytes c.in_ok-hrp.hrp) c.args.kinds.now c.list_rows-listed.new.kinds c.args.places.now c.list_rows-listed.new.places c.args.texts.now c.list_rows-listed.new.texts
-    hrp c.list_rows-listed.result c.suggest_of_read.result (λ v. v.items) (λ s. string_bytes s.text) (λ s. s.mending) (λ s. s.place) c.suggest_of_read.ensures c.list_rows-listed.ensures in
-    ends_ok c.args.memory.now c.end_with.new.memory c.list_rows-listed.result c.end_with.result back _
+    hrp c.list_rows-listed.result c.suggest_for_reading.result (λ v. v.items) (λ s. string_bytes s.text) (λ s. s.mending) (λ s. s.place) c.suggest_for_reading.ensures c.list_rows-listed.ensures in
+    ends_ok c.args.memory.now c.give_memory_back.new.memory c.list_rows-listed.result c.give_memory_back.result back _
     (lacks_listed c.args.bytes.now c.args.part.now c.args.kinds.now c.list_rows-listed.new.kinds c.args.places.now c.list_rows-listed.new.places c.args.texts.now c.list_rows-listed.new.texts
     c.list_rows-listed.result (rw (c.in_ok-hrp.ensures.1, c.in_ok-text.ensures.0) at listed))
 
 pub returns-clause-accepts : goal.returns-clause-accepts
 returns-clause-accepts c is can =
-    let back : EndsWith c.args.memory.now c.end_with.new.memory c.list_rows-listed.result c.end_with.result = search rules in
+    let back : EndsWith c.args.memory.now c.give_memory_back.new.memory c.list_rows-listed.result c.give_memory_back.result = search rules in
     let t = c.in_ok-text.text.now in
     let hrp : IsHrp (hrp_bytes c.in_ok-hrp.hrp) = subst IsHrp (sym c.in_ok-hrp.ensures.1) c.in_ok-hrp.ensures.0 in
     let refused = suggested_refused t (hrp_bytes c.in_ok-hrp.hrp) c.args.kinds.now c.list_rows-listed.new.kinds c.args.places.now c.list_rows-listed.new.places c.args.texts.now c.list_rows-listed.new.texts
-    hrp c.list_rows-listed.result c.suggest_of_read.result (λ v. v.items) (λ s. string_bytes s.text) (λ s. s.mending) (λ s. s.place) c.suggest_of_read.ensures c.list_rows-listed.ensures in
-    ends_err c.args.memory.now c.end_with.new.memory c.list_rows-listed.result c.end_with.result back (λ e. e ≡ Memory) (err_more _ (λ e. e ≡ Memory) c.list_rows-listed.result (λ e h. h.0) refused) (λ _. refl)
+    hrp c.list_rows-listed.result c.suggest_for_reading.result (λ v. v.items) (λ s. string_bytes s.text) (λ s. s.mending) (λ s. s.place) c.suggest_for_reading.ensures c.list_rows-listed.ensures in
+    ends_err c.args.memory.now c.give_memory_back.new.memory c.list_rows-listed.result c.give_memory_back.result back (λ e. e ≡ Memory) (err_more _ (λ e. e ≡ Memory) c.list_rows-listed.result (λ e h. h.0) refused) (λ _. refl)
 
 pub returns-clause-refused : goal.returns-clause-refused
 returns-clause-refused c =
-    let back : EndsWith c.args.memory.now c.end_with.new.memory c.list_rows-listed.result c.end_with.result = search rules in
+    let back : EndsWith c.args.memory.now c.give_memory_back.new.memory c.list_rows-listed.result c.give_memory_back.result = search rules in
     let t = c.in_ok-text.text.now in
     let hrp : IsHrp (hrp_bytes c.in_ok-hrp.hrp) = subst IsHrp (sym c.in_ok-hrp.ensures.1) c.in_ok-hrp.ensures.0 in
     let refused = suggested_refused t (hrp_bytes c.in_ok-hrp.hrp) c.args.kinds.now c.list_rows-listed.new.kinds c.args.places.now c.list_rows-listed.new.places c.args.texts.now c.list_rows-listed.new.texts
-    hrp c.list_rows-listed.result c.suggest_of_read.result (λ v. v.items) (λ s. string_bytes s.text) (λ s. s.mending) (λ s. s.place) c.suggest_of_read.ensures c.list_rows-listed.ensures in
-    let P = IsSuggestFaultOrKept c.args.bytes.now c.args.part.now c.args.memory.now c.end_with.new.memory in
-    ends_err c.args.memory.now c.end_with.new.memory c.list_rows-listed.result c.end_with.result back P
+    hrp c.list_rows-listed.result c.suggest_for_reading.result (λ v. v.items) (λ s. string_bytes s.text) (λ s. s.mending) (λ s. s.place) c.suggest_for_reading.ensures c.list_rows-listed.ensures in
+    let P = IsSuggestFaultOrKept c.args.bytes.now c.args.part.now c.args.memory.now c.give_memory_back.new.memory in
+    ends_err c.args.memory.now c.give_memory_back.new.memory c.list_rows-listed.result c.give_memory_back.result back P
     (err_more _ P c.list_rows-listed.result (λ e h. inl (inr (c.in_ok-hrp.ensures.0, rw c.in_ok-text.ensures.0 at h.1))) refused)
     (λ kept. inr (refl, kept, c.in_ok-hrp.ensures.0, (c.in_ok-text.ensures.1, rw c.in_ok-text.ensures.0 at c.in_ok-read.ensures.said)))
 
 pub returns-clause-same : goal.returns-clause-same
 returns-clause-same c =
-    let back : EndsWith c.args.memory.now c.end_with.new.memory c.list_rows-listed.result c.end_with.result = search rules in
+    let back : EndsWith c.args.memory.now c.give_memory_back.new.memory c.list_rows-listed.result c.give_memory_back.result = search rules in
     let t = c.in_ok-text.text.now in
     let hrp : IsHrp (hrp_bytes c.in_ok-hrp.hrp) = subst IsHrp (sym c.in_ok-hrp.ensures.1) c.in_ok-hrp.ensures.0 in
     let refused = suggested_refused t (hrp_bytes c.in_ok-hrp.hrp) c.args.kinds.now c.list_rows-listed.new.kinds c.args.places.now c.list_rows-listed.new.places c.args.texts.now c.list_rows-listed.new.texts
-    hrp c.list_rows-listed.result c.suggest_of_read.result (λ v. v.items) (λ s. string_bytes s.text) (λ s. s.mending) (λ s. s.place) c.suggest_of_read.ensures c.list_rows-listed.ensures in
-    ends_err c.args.memory.now c.end_with.new.memory c.list_rows-listed.result c.end_with.result back _ (err_more _ _ c.list_rows-listed.result (λ e h. inl h.2) refused) (λ kept. inr (refl, kept))
+    hrp c.list_rows-listed.result c.suggest_for_reading.result (λ v. v.items) (λ s. string_bytes s.text) (λ s. s.mending) (λ s. s.place) c.suggest_for_reading.ensures c.list_rows-listed.ensures in
+    ends_err c.args.memory.now c.give_memory_back.new.memory c.list_rows-listed.result c.give_memory_back.result back _ (err_more _ _ c.list_rows-listed.result (λ e h. inl h.2) refused) (λ kept. inr (refl, kept))
 
 pub returns-clause-memory : goal.returns-clause-memory
 returns-clause-memory c =
-    let back : EndsWith c.args.memory.now c.end_with.new.memory c.list_rows-listed.result c.end_with.result = search rules in
-    returns_memory c.args.memory.now c.end_with.new.memory c.list_rows-listed.result c.end_with.result back
+    let back : EndsWith c.args.memory.now c.give_memory_back.new.memory c.list_rows-listed.result c.give_memory_back.result = search rules in
+    returns_memory c.args.memory.now c.give_memory_back.new.memory c.list_rows-listed.result c.give_memory_back.result back

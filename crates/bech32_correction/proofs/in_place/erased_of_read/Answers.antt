@@ -16,4 +16,4 @@ returns g c =
     let refused = refused_by_rest code s.text.now s.hrp.now s.data_part.now c.error_residue-residue.result c.CHECKSUM_LENGTH.result s.is_reading.grammar
     c.requires.lengths size degree within c.error_residue-residue.ensures c.requires.refused in
     erased_answered code g.Ck.Checksum.bound s.text.now c.args.erasures.now s.hrp.now s.data_part.now (take c.CHECKSUM_LENGTH.result c.error_residue-residue.result)
-    c.erased_below.result refused c.erased_below.ensures
+    c.lookup_erasures.result refused c.lookup_erasures.ensures

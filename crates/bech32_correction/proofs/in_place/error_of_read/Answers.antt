@@ -4,8 +4,8 @@ use Rattle.bech32_correction.proofs.Outcomes.{error_answered}
 use Rattle.bech32_correction.proofs.Residues.{refused_by_rest, residue_not_zero}
 use Rattle.bech32_correction.proofs.in_place.error_of_read.Goals as goal
 
-pub single_below-requires-clause-not_zero : goal.single_below-requires-clause-not_zero
-single_below-requires-clause-not_zero g c =
+pub lookup_single_error-requires-clause-not_zero : goal.lookup_single_error-requires-clause-not_zero
+lookup_single_error-requires-clause-not_zero g c =
     let code = g.Ck.Checksum.code in
     let s = c.args.reading.now in
     let size : length code.target ≡ length code.generator =
@@ -28,5 +28,5 @@ returns g c =
     let within : c.CHECKSUM_LENGTH.result ≤ length c.error_residue-residue.result = search rules in
     let refused = refused_by_rest code s.text.now s.hrp.now s.data_part.now c.error_residue-residue.result c.CHECKSUM_LENGTH.result s.is_reading.grammar
     c.requires.lengths size degree within c.error_residue-residue.ensures c.requires.refused in
-    error_answered code g.Ck.Checksum.bound s.text.now s.hrp.now s.data_part.now (take c.CHECKSUM_LENGTH.result c.error_residue-residue.result) c.single_below.result
-    refused c.single_below.ensures
+    error_answered code g.Ck.Checksum.bound s.text.now s.hrp.now s.data_part.now (take c.CHECKSUM_LENGTH.result c.error_residue-residue.result) c.lookup_single_error.result
+    refused c.lookup_single_error.ensures

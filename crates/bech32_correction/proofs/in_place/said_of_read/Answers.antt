@@ -1,6 +1,6 @@
 use Rattle.std.proofs.Common.{◌≡◌, true, false}
 use Rattle.std.proofs.lemmas.Result.{err_from_is_err_and}
-use Rattle.bech32_correction.proofs.Outcomes.{none-from_lengths, refusal_of_parts, said_of}
+use Rattle.bech32_correction.proofs.Outcomes.{none-from_lengths, refusal_of_parts, reply_of}
 use Rattle.bech32_correction.proofs.in_place.said_of_read.Goals as goal
 
 pub listing_of_read-requires : goal.listing_of_read-requires
@@ -35,5 +35,5 @@ returns-then-has_target g c =
 
 pub returns : goal.returns
 returns g c =
-    said_of g.Ck.Checksum.code g.Ck.Checksum.bound c.args.reading.now.text.now c.args.erasures.now c.listing_of_read.result c.said_by.result
+    reply_of g.Ck.Checksum.code g.Ck.Checksum.bound c.args.reading.now.text.now c.args.erasures.now c.listing_of_read.result c.said_by.result
     c.listing_of_read.ensures c.said_by.ensures

@@ -15,8 +15,8 @@ use Rattle.bech32_finders.proofs.Usable.{usable_read}
 use Rattle.bech32_finders.proofs.Based.{candidate_over, found_over}
 use Rattle.bech32_finders.proofs.correction.correct_by_roots.Goals as goal
 
-pub candidate-requires : goal.candidate-requires
-candidate-requires g c =
+pub decode_errors-requires : goal.decode_errors-requires
+decode_errors-requires g c =
     let o = g.Ck.CorrectionField.Arithmetic.ops in
     let usable = usable_read o g.Ck.CorrectionField.Extension.embed g.met.Ck.CorrectionField.LocatorField.embeds_law.one
     g.Ck.Checksum.code g.Ck.Checksum.ROOT_GENERATOR c.ROOT_GENERATOR.result g.Ck.Checksum.ROOT_EXPONENTS_START c.ROOT_EXPONENTS_START.result g.Ck.Checksum.ROOT_EXPONENTS_END c.bound.result

@@ -6,8 +6,8 @@ use Rattle.bech32_checksum.specs.Code.{IsResidueOf}
 use Rattle.bech32_finders.proofs.Remainders.{leaves}
 use Rattle.bech32_finders.proofs.correction.has_residue.Goals as goal
 
-pub is_same-requires : goal.is_same-requires
-is_same-requires g c =
+pub row_equals-requires : goal.row_equals-requires
+row_equals-requires g c =
     let wider : 5 * g.Ck.Checksum.CHECKSUM_LENGTH ≤ 5 * g.Ck.MidstateRepr.PackedFe32.WIDTH = omega (arith, g.met.Ck.Checksum.packing_laws.fits) in
     lt_of_lt_of_le c.residue.ensures.clear (pow_mono wider)
 
@@ -16,4 +16,4 @@ returns g c =
     let both = leaves g.Ck.Checksum.code.generator c.args.residue.now c.args.listing.now g.Ck.Checksum.CHECKSUM_LENGTH (g.Ck.MidstateRepr.PackedFe32.number c.residue.result.now)
     g.met.Ck.Checksum.degree_law c.residue.ensures.clear
     (subst (λ r. IsResidueOf g.Ck.MidstateRepr.PackedFe32.number g.Ck.Checksum.code r (pattern_polynomial fe32.ops c.args.listing.now)) (sym c.residue.ensures.value) c.listed_engine-engine.ensures) in
-    (λ h. both.0 (c.is_same.ensures.0 h), λ r. c.is_same.ensures.1 (both.1 r))
+    (λ h. both.0 (c.row_equals.ensures.0 h), λ r. c.row_equals.ensures.1 (both.1 r))

@@ -13,8 +13,8 @@ returns-in_err-validate_lengths g c =
     rw p.1 (rw p.2 (refusal_of_parts code c.args.text.now s.hrp.now s.data_part.now e (rw c.in_ok-reading.ensures.value at s.is_reading.grammar) refusal.0
     (none-from_lengths code _ s.hrp.now s.data_part.now e refusal.0 refusal.1)))
 
-pub nearest_of_read-requires : goal.nearest_of_read-requires
-nearest_of_read-requires g c = (search rules, (search rules, c.in_ok-validate_lengths.ensures))
+pub nearest_to_reading-requires : goal.nearest_to_reading-requires
+nearest_to_reading-requires g c = (search rules, (search rules, c.in_ok-validate_lengths.ensures))
 
 pub returns : goal.returns
-returns g c = rw c.in_ok-reading.ensures.value at c.in_ok-nearest_of_read.ensures
+returns g c = rw c.in_ok-reading.ensures.value at c.in_ok-nearest_to_reading.ensures

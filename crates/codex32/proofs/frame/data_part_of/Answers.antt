@@ -27,12 +27,12 @@ other_length may text bytes data_part same utf8 out is =
     let is_text = subst (λ (t : List ℕ). IsText t (take 2 t) data_part) same is in
     past_parts may text (take 2 text) data_part (text_refusal-none text utf8 (take 2 text, data_part, is_text)) is_text ∙ refused_length may (length text) (take 2 text) out
 
-pub returns-then-not-have : goal.returns-then-not-have
-returns-then-not-have c =
-    other_length (may_have c.args.lengths) c.args.text.now c.as_bytes.result.now c.in-Some.data_part.now c.as_bytes.ensures.value c.utf8.text (sym c.have.ensures ∙ c.if-not-have.true)
+pub returns-then-not-allows : goal.returns-then-not-allows
+returns-then-not-allows c =
+    other_length (may_have c.args.lengths) c.args.text.now c.as_bytes.result.now c.in-Some.data_part.now c.as_bytes.ensures.value c.utf8.text (sym c.allows.ensures ∙ c.if-not-allows.true)
     c.in-Some.ensures.text
 
 pub returns : goal.returns
 returns c =
-    plain (may_have c.args.lengths) c.args.text.now c.as_bytes.result.now c.in-Some.data_part.now c.as_bytes.ensures.value c.utf8.text (sym c.have.ensures ∙ c.if-not-have.false)
+    plain (may_have c.args.lengths) c.args.text.now c.as_bytes.result.now c.in-Some.data_part.now c.as_bytes.ensures.value c.utf8.text (sym c.allows.ensures ∙ c.if-not-allows.false)
     c.in-Some.ensures.text c.in-Some.ensures.part

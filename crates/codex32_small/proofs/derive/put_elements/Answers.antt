@@ -29,8 +29,8 @@ sized ps room item n count enough is wide =
     let small : length first.characters.now ≤ 124 = omega (arith, most) in
     record { size = size; small = small; row = length-take-le (length first.characters.now) room (omega (arith, small, wide)) }
 
-pub given_at-requires-clause-shares : goal.given_at-requires-clause-shares
-given_at-requires-clause-shares c =
+pub interpolate_if_consistent-requires-clause-shares : goal.interpolate_if_consistent-requires-clause-shares
+interpolate_if_consistent-requires-clause-shares c =
     let ps = c.args.parts.now in
     let s = sized ps c.args.room.now c.index-parts-0.result c.in_ok-count.count c.in_ok-count.ensures.outcome.1 c.in_ok-count.ensures.few.1 c.index-parts-0.is c.requires in
     subst (λ (n : ℕ). AreShares (map index_of_part ps) (rows ps) n) (sym (s.row ∙ s.size))
@@ -38,8 +38,8 @@ given_at-requires-clause-shares c =
     (subst (λ (xs : List Fe32). AreShares xs (rows_of (shares_of ps)) (size_of (shares_of ps))) (indices-parts ps)
     (shares-from_set (shares_of ps) c.args.index c.in_ok-count.ensures.outcome.0)))
 
-pub returns-then-not-given_at-clause-outcome : goal.returns-then-not-given_at-clause-outcome
-returns-then-not-given_at-clause-outcome c =
+pub returns-then-not-interpolate_if_consistent-clause-outcome : goal.returns-then-not-interpolate_if_consistent-clause-outcome
+returns-then-not-interpolate_if_consistent-clause-outcome c =
     let ps = c.args.parts.now in
     let s = sized ps c.args.room.now c.index-parts-0.result c.in_ok-count.count c.in_ok-count.ensures.outcome.1 c.in_ok-count.ensures.few.1 c.index-parts-0.is c.requires in
     inr (
@@ -51,8 +51,8 @@ returns-then-not-given_at-clause-outcome c =
           (subst (λ (ts : List (List Fe32)). DoAgree ops c.in_ok-count.count (map index_of_part ps) ts (size_of (shares_of ps))) (rows-parts ps)
           (subst (λ (xs : List Fe32). DoAgree ops c.in_ok-count.count xs (rows_of (shares_of ps)) (size_of (shares_of ps))) (indices-parts ps)
           (subst (λ (k : ℕ). DoAgree ops k (indices_of (shares_of ps)) (rows_of (shares_of ps)) (size_of (shares_of ps))) (sym c.in_ok-count.ensures.outcome.1) agree))) in
-          let answer = c.given_at.ensures.answer.1 same in
-          absurd (let k = sym c.if-not-given_at.true ∙ answer in cc),
+          let answer = c.interpolate_if_consistent.ensures.answer.1 same in
+          absurd (let k = sym c.if-not-interpolate_if_consistent.true ∙ answer in cc),
     )
 
 given_in : (ps : List Part) (x : Fe32) (k n m : ℕ) (row : List Fe32) → k ≡ count_of (shares_of ps) → m ≡ n → IsGiven ops k (map index_of_part ps) (rows ps) m x row
@@ -68,10 +68,10 @@ returns-clause-outcome c =
     let ps = c.args.parts.now in
     let first : Part = get_or ps 0 c.index-parts-0.result in
     let n : ℕ = length first.characters.now in
-    let row = c.given_at.new.target in
+    let row = c.interpolate_if_consistent.new.target in
     let s = sized ps c.args.room.now c.index-parts-0.result c.in_ok-count.count c.in_ok-count.ensures.outcome.1 c.in_ok-count.ensures.few.1 c.index-parts-0.is c.requires in
-    let given = given_in ps c.args.index c.in_ok-count.count n _ row c.in_ok-count.ensures.outcome.1 s.row (c.given_at.ensures.text c.if-not-given_at.false) in
-    let front = take_at row (drop n c.args.room.now) n (c.given_at.ensures.size ∙ s.row) in (
+    let given = given_in ps c.args.index c.in_ok-count.count n _ row c.in_ok-count.ensures.outcome.1 s.row (c.interpolate_if_consistent.ensures.text c.if-not-interpolate_if_consistent.false) in
+    let front = take_at row (drop n c.args.room.now) n (c.interpolate_if_consistent.ensures.size ∙ s.row) in (
       s.size,
       s.small,
       c.in_ok-count.ensures.outcome.0,

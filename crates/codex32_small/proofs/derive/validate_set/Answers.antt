@@ -19,13 +19,13 @@ returns-then-not-are_of_set-clause-outcome c =
     let is : c.in-Some.first.now ≡ get_or ps 0 c.in-Some.first.now = search rules in
     inl (refl, λ set. absurd (let k = sym c.if-not-are_of_set.true ∙ c.are_of_set.ensures.1 (parts-from_set ps c.in-Some.first.now some is set) in cc))
 
-pub returns-then-not-are_indices_once-clause-outcome : goal.returns-then-not-are_indices_once-clause-outcome
-returns-then-not-are_indices_once-clause-outcome c =
+pub returns-then-not-are_indices_distinct-clause-outcome : goal.returns-then-not-are_indices_distinct-clause-outcome
+returns-then-not-are_indices_distinct-clause-outcome c =
     let ps = c.args.parts.now in
     let some : 1 ≤ length ps = search rules in
     let is : c.in-Some.first.now ≡ get_or ps 0 c.in-Some.first.now = search rules in
     let set = set-from_parts ps c.in-Some.first.now some is (c.are_of_set.ensures.0 c.if-not-are_of_set.false) in
-    inr (inl (refl, set, λ once. absurd (let k = sym c.if-not-are_indices_once.true ∙ c.are_indices_once.ensures.1 (subst IsOnce (indices-parts ps) once) in cc)))
+    inr (inl (refl, set, λ once. absurd (let k = sym c.if-not-are_indices_distinct.true ∙ c.are_indices_distinct.ensures.1 (subst IsOnce (indices-parts ps) once) in cc)))
 
 pub returns-then-ne-clause-outcome : goal.returns-then-ne-clause-outcome
 returns-then-ne-clause-outcome c =
@@ -34,7 +34,7 @@ returns-then-ne-clause-outcome c =
     let some : 1 ≤ length ps = search rules in
     let is : first ≡ get_or ps 0 first = search rules in
     let set = set-from_parts ps first some is (c.are_of_set.ensures.0 c.if-not-are_of_set.false) in
-    let once = subst IsOnce (sym (indices-parts ps)) (c.are_indices_once.ensures.0 c.if-not-are_indices_once.false) in
+    let once = subst IsOnce (sym (indices-parts ps)) (c.are_indices_distinct.ensures.0 c.if-not-are_indices_distinct.false) in
     let zero : first.header.threshold.number ≡ 0 = sym (c.number.ensures ∙ ap (λ (t : Threshold). threshold_number t) c.threshold-threshold.ensures) ∙ c.if-number-eq0.true in
     let apart : c.args.index ≡ secret_index → ⊥ = λ same. absurd (let k = sym c.if-ne.true ∙ c.ne.ensures ∙ ap (λ (x : Fe32). not (x.value == 16)) same in cc) in
     inr (inr (inl (refl, set, once, unshared-parts ps first c.args.index some is (zero, apart))))
@@ -46,7 +46,7 @@ returns-then-parts-count-clause-outcome c =
     let some : 1 ≤ length ps = search rules in
     let is : first ≡ get_or ps 0 first = search rules in
     let set = set-from_parts ps first some is (c.are_of_set.ensures.0 c.if-not-are_of_set.false) in
-    let once = subst IsOnce (sym (indices-parts ps)) (c.are_indices_once.ensures.0 c.if-not-are_indices_once.false) in
+    let once = subst IsOnce (sym (indices-parts ps)) (c.are_indices_distinct.ensures.0 c.if-not-are_indices_distinct.false) in
     let number : c.number.result ≡ first.header.threshold.number = c.number.ensures ∙ ap (λ (t : Threshold). threshold_number t) c.threshold-threshold.ensures in
     let shared : IsUnshared (shares_of ps) c.args.index → ⊥ = λ un.
     let h = parts-unshared ps first c.args.index some is un in
@@ -68,7 +68,7 @@ returns-clause-outcome c =
     let some : 1 ≤ length ps = search rules in
     let is : first ≡ get_or ps 0 first = search rules in
     let set = set-from_parts ps first some is (c.are_of_set.ensures.0 c.if-not-are_of_set.false) in
-    let once = subst IsOnce (sym (indices-parts ps)) (c.are_indices_once.ensures.0 c.if-not-are_indices_once.false) in
+    let once = subst IsOnce (sym (indices-parts ps)) (c.are_indices_distinct.ensures.0 c.if-not-are_indices_distinct.false) in
     let number : c.number.result ≡ first.header.threshold.number = c.number.ensures ∙ ap (λ (t : Threshold). threshold_number t) c.threshold-threshold.ensures in
     let shared : IsUnshared (shares_of ps) c.args.index → ⊥ = λ un.
     let h = parts-unshared ps first c.args.index some is un in

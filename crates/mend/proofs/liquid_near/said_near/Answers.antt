@@ -8,7 +8,7 @@ use Rattle.mend.proofs.liquid_near.said_near.Goals as goal
 pub returns : goal.returns
 returns c =
     says-liquid-found _ c.args.text.now c.args.given.now c.args.errors c.in_ok-near.field-0.texts.items c.as_slice.result.now _ c.as_slice.ensures.value c.in_ok-near.ensures.0
-    c.in_ok-said_of.ensures
+    c.in_ok-reply_of.ensures
 
 pub returns-in_err-near : goal.returns-in_err-near
 returns-in_err-near c =

@@ -8,7 +8,7 @@ use Rattle.mend.proofs.near.said_of_first.Goals as goal
 pub returns-then-found-le-MOST_SAID : goal.returns-then-found-le-MOST_SAID
 returns-then-found-le-MOST_SAID g c =
     let few : length c.args.found.now ≤ most_said = omega arith in
-    all-said g.T.Found.spelling (λ v. v.items) c.args.found.now c.said_of.result few c.said_of.ensures
+    all-said g.T.Found.spelling (λ v. v.items) c.args.found.now c.reply_of.result few c.reply_of.ensures
 
 pub returns : goal.returns
 returns g c =
@@ -19,5 +19,5 @@ returns g c =
     ∙ append_assoc (codes "ok") first (codes " more")
     ∙ ap (λ (l : List ℕ). codes "ok" ++ (first ++ l)) (sym (more_there most_said c.args.found.now some))
 
-pub slice_bounds-said_of-end : goal.slice_bounds-said_of-end
-slice_bounds-said_of-end g c = sym (length-take-le most_said c.args.found.now (omega (arith, c.if-found-le-MOST_SAID.false)))
+pub slice_bounds-reply_of-end : goal.slice_bounds-reply_of-end
+slice_bounds-reply_of-end g c = sym (length-take-le most_said c.args.found.now (omega (arith, c.if-found-le-MOST_SAID.false)))
