@@ -3,21 +3,18 @@
 ghost use Rattle.std.specs.Prelude.{◌≡◌};
 ghost use Rattle.bech32_gf.specs.Fe32.{mul};
 
+use bech32_checksum::sums;
 use bech32_gf::gf32::Fe32;
-
-// The sums without carry of numbers: that of those at the set bits of i, at i.
-macro_rules! sums {
-    ([$($sum:expr),*]) => {
-        [$($sum),*]
-    };
-    ([$($sum:expr),*] $next:literal $($rest:literal)*) => {
-        sums!([$($sum,)* $($sum ^ $next),*] $($rest)*)
-    };
-}
 
 // For each element its products with the first five powers of x, six bits for each, the lowest
 // first. Those of a sum are the sums, so the rows of 1, 2, 4, 8 and 16 make all.
-const ROWS: [u32; 32] = sums!([0] 0x1020_4081 0x0940_8102 0x1225_0204 0x0d48_9408 0x1a35_2250);
+const ROWS: [u32; 32] = sums!(
+    0x1020_4081,
+    0x0940_8102,
+    0x1225_0204,
+    0x0d48_9408,
+    0x1a35_2250
+);
 
 /// The product of an element, of which all can be told, and another, of which nothing can: no
 /// branch and no address depends on it.
