@@ -1,4 +1,4 @@
-//! Tests of `bech32`, of its writers, of `bech32_segwit`, and of `testing_tools::plain` beside it.
+//! Tests of `bech32`, of its writers and of `bech32_segwit`. Values are rows of `vector_rows`.
 #![tactic(auto)]
 
 #[cfg(test)]

@@ -1,14 +1,9 @@
-mod calls;
 mod compare;
-mod correction;
 mod elements;
 mod every_length;
-mod long;
 mod messages;
 pub mod paths;
-mod plain;
 mod room;
 mod root;
 mod segwit;
-mod walks;
 mod writers;

@@ -1,13 +1,8 @@
 mod compare;
 mod crafted;
-mod detection;
 mod detection_memory;
 mod listed;
 mod looked_up;
 mod memory;
-mod near_edits;
-mod near_texts;
 mod nearest;
-mod one_call;
-mod printed;
-mod rows;
+mod without_memory;

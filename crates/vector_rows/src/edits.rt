@@ -1,7 +1,7 @@
 //! The texts that one edit makes of a text, and that a checksum accepts.
 
 use crate::rows::{no_row, word};
-use bech32_checksum::{Bech32, Bech32m, Checksum};
+use bech32_checksum::{Bech32, Bech32m, Checksum, NoChecksum};
 use bech32_near::edits::{Change, NearEdit, near_edits};
 use std::alloc::{AllocError, Global};
 
@@ -47,7 +47,7 @@ fn all_shown(alloc: Global, found: &[NearEdit<String>]) -> Result<String, AllocE
 fn reply_of<Ck: Checksum>(alloc: Global, text: &str) -> Result<String, AllocError> {
     match near_edits::<Ck>(alloc, text) {
         Ok(found) => all_shown(alloc, &found),
-        Err(_) => no_row(alloc),
+        Err(error) => format!(in alloc; "{error}"),
     }
 }
 
@@ -56,6 +56,7 @@ pub fn reply(alloc: Global, words: &[&str]) -> Result<String, AllocError> {
     match word(words, 1) {
         "Bech32" => reply_of::<Bech32>(alloc, word(words, 2)),
         "Bech32m" => reply_of::<Bech32m>(alloc, word(words, 2)),
+        "NoChecksum" => reply_of::<NoChecksum>(alloc, word(words, 2)),
         _ => no_row(alloc),
     }
 }

@@ -24,7 +24,30 @@
 //! - `descriptor` and a text: whether it is a descriptor with its checksum, `none` where it ends in
 //!   none, or `at` the place of a character that may not stand there; and each descriptor that one
 //!   edit makes of it, with the edit, `=` a character changed or as above, and its place from 0;
-//! - `checksum` and a descriptor without one: its checksum.
+//! - `checksum` and a descriptor without one: its checksum;
+//! - `text`, a call and a text: what the call reads, or the refusal and whether it has a residue;
+//! - `written`, a form, a checksum, a human-readable part and bytes: the text in memory, by a
+//!   formatter and by a writer, or the refusal; `elements` for a form takes elements;
+//! - `unchecked`, a form, a human-readable part, a witness version and a program: the address that
+//!   is written without a test, by a formatter and by a writer;
+//! - `length`, a checksum, a human-readable part and bytes: how long the text is, by two calls;
+//! - `segwit`, a human-readable part, a witness version and a program: the address, that by the
+//!   call of its version, and its length by three calls, each or the refusal;
+//! - `walk`, a checksum and a text: what one walk says, what the reading says, what the rules say;
+//!   or `address` and a text: its version and how many characters its program has;
+//! - `plain` and a text: which checksum accepts it by the definition;
+//! - `defined`, a checksum, a human-readable part and bytes: the text by the definition;
+//! - `ways`, a checksum, a text, erasures, a window, a highest location and the location of an
+//!   error to take off: the bound and the window, and what is listed by another corrector with the
+//!   erasures, with them in place of its own, up to the highest location, with them added, and
+//!   without the error;
+//! - `printed`, a text, erasures and a window: what its corrector prints;
+//! - `lookup`, what is looked up, a checksum, a residue and locations: what the checksum finds;
+//! - `mended`, a checksum, a text and erasures: the mended text, or what is said in its place;
+//! - `near`, a checksum, a text, erasures and a number of errors: the texts near it;
+//! - `nearest`, a text, erasures, a number of errors and a window: all listings by Bech32;
+//! - `edited`: as `edits`;
+//! - `detects`, a checksum and a number of characters: whether it detects four errors in them.
 //!
 //! Elements are their characters, the constant coefficient first; a generator goes from its highest
 //! coefficient down, without the leading one; `-` stands for nothing. What the rows in `stdin` give
@@ -43,6 +66,8 @@ mod elements;
 mod fields;
 mod listings;
 mod long_texts;
+mod of_corrections;
+mod of_texts;
 mod registers;
 mod rows;
 

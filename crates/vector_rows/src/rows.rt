@@ -2,7 +2,7 @@
 
 use crate::{
     appended, bits, blocks, confidential, descriptors, edits, fields, listings, long_texts,
-    registers,
+    of_texts, registers,
 };
 use std::alloc::{AllocError, Global};
 
@@ -33,7 +33,7 @@ fn reply_to(alloc: Global, words: &[&str]) -> Result<String, AllocError> {
         "long" => long_texts::reply(alloc, words),
         "descriptor" => descriptors::reply(alloc, words),
         "checksum" => descriptors::checksum_reply(alloc, words),
-        _ => no_row(alloc),
+        _ => of_texts::reply(alloc, words),
     }
 }
 

@@ -11,16 +11,9 @@ pub fn same<T: PartialEq + Debug>(rt: &impl Abort, got: &T, want: &T) {
     assert_eq!(rt; got, want);
 }
 
-/// Fails where a value prints another text than the one beside it.
-pub fn prints<T: Display>(rt: &impl Abort, alloc: Global, rows: &[(T, &str)]) {
-    for row in rows {
-        same(rt, &shown(alloc, &row.0).as_str(), &row.1);
-    }
-}
-
-/// Fails where the two differ.
-pub fn same_items<T: PartialEq + Debug>(rt: &impl Abort, got: &[T], want: &[T]) {
-    same(rt, &got, &want);
+/// Fails where a value prints another text.
+pub fn prints<T: Display>(rt: &impl Abort, alloc: Global, value: &T, text: &str) {
+    same(rt, &shown(alloc, value).as_str(), &text);
 }
 
 /// Fails where a call is not right, or out of memory, or is either on each heap.

@@ -1,14 +1,12 @@
 //! Calls that take memory, at every length of a text, with ample memory: none is out of memory.
 
-use crate::tests::calls::text_by;
 use crate::tests::compare::same;
 use bech32::{
-    Bech32, CorrectError, Correction, Hrp, Mended, NearEdit, NearTexts, correct_in, decode,
+    Bech32, CorrectError, Correction, Hrp, Mended, NearEdit, NearTexts, correct_in, decode, encode,
     near_edits_in, nearest_in,
 };
 use linked_list_allocator::LocalHeap;
 use std::alloc::{AllocError, Global};
-use testing_tools::plain::PlainChecksum;
 
 // Bytes of which the first ones are in a text.
 fn bytes() -> [u8; 80] {
@@ -17,7 +15,7 @@ fn bytes() -> [u8; 80] {
 
 /// The text of bytes under a human-readable part.
 pub fn text_of(alloc: Global, part: &str, bytes: &[u8]) -> Option<String> {
-    text_by(PlainChecksum::Bech32, alloc, Hrp::parse(part).ok()?, bytes).ok()
+    encode::<Bech32>(alloc, Hrp::parse(part).ok()?, bytes).ok()
 }
 
 /// The text without its last character.

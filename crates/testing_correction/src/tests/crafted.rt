@@ -1,7 +1,9 @@
 //! Residues that no mistyped text need leave.
 
-use super::listed::{bech32_lists, tiny_lists};
+use super::listed::{Listing, corrector_of, lists};
 use crate::tests::compare::same;
+use bech32_checksum::{Bech32, Checksum};
+use bech32_correction::Corrector;
 use bech32_gf::gf32::Fe32;
 use bech32_refusals::InvalidResidueError;
 use std::alloc::Global;
@@ -30,10 +32,18 @@ fn error_of(residue: u32) -> Option<InvalidResidueError> {
     }
 }
 
+// Whether a corrector, where there is one, lists just this, or nothing.
+fn is_listed_by<Ck: Checksum>(found: Option<Corrector<Ck>>, want: Option<Listing>) -> bool {
+    match found {
+        Some(corrector) => lists(&corrector, want) == Some(true),
+        None => false,
+    }
+}
+
 // Whether Bech32 lists just this for a residue without erasures, or nothing.
-fn is_listed(alloc: Global, residue: u32, want: Option<&[(usize, Fe32)]>) -> bool {
+fn is_listed(alloc: Global, residue: u32, want: Option<Listing>) -> bool {
     match error_of(residue) {
-        Some(error) => bech32_lists(alloc, &error, &[], want),
+        Some(error) => is_listed_by(corrector_of::<Bech32, Global>(alloc, &error, None), want),
         None => false,
     }
 }
@@ -51,58 +61,68 @@ fn multiple_of_factors(a: Fe32, b: Fe32) -> [Fe32; 6] {
     ]
 }
 
+// How many of the products with a, other than zero, have no listing.
+fn unlisted_with(alloc: Global, a: Fe32) -> usize {
+    let mut unlisted = 0usize;
+    for b in Fe32::iter_alpha() {
+        let residue = packed(&multiple_of_factors(a, b));
+        if residue != 0 && is_listed(alloc, residue, None) {
+            unlisted = unlisted.saturating_add(1);
+        }
+    }
+    unlisted
+}
+
+// The same of all products.
+fn unlisted_products(alloc: Global) -> usize {
+    let mut unlisted = 0usize;
+    for a in Fe32::iter_alpha() {
+        unlisted = unlisted.saturating_add(unlisted_with(alloc, a));
+    }
+    unlisted
+}
+
 // The first syndrome is not zero, and the two others are: no pattern of so few errors has them.
 #[test]
 fn one_syndrome_of_three(rt: HostRuntime) {
-    let mut residues = 0u32;
-    for a in Fe32::iter_alpha() {
-        for b in Fe32::iter_alpha() {
-            let residue = packed(&multiple_of_factors(a, b));
-            if residue != 0 {
-                let is_unlisted = is_listed(rt.alloc(), residue, None);
-                same(&rt, &(a, b, is_unlisted), &(a, b, true));
-                residues = residues.saturating_add(1);
-            }
-        }
-    }
-    same(&rt, &residues, &1023);
+    same(&rt, &unlisted_products(rt.alloc()), &1023);
 }
 
-// A pattern of one error at each location, by long division, is listed as it is.
-#[test]
-fn one_error_at_each_location(rt: HostRuntime) {
+// At how many locations from the last a pattern of one error, by long division, is listed as it is.
+fn listed_errors(alloc: Global) -> usize {
     let mut power = [Fe32::P, Fe32::Q, Fe32::Q, Fe32::Q, Fe32::Q, Fe32::Q];
     let mut n = 0u8;
     for place in 0..1023usize {
         n = n.wrapping_add(7);
         let value = Fe32::from_low_bits(n % 31 + 1);
         let residue = packed(&power.map(|digit| digit * value));
-        let is_listed = is_listed(rt.alloc(), residue, Some(&[(place, value)]));
-        same(&rt, &(place, is_listed), &(place, true));
+        if !is_listed(alloc, residue, Some(&[(place, value)])) {
+            return place;
+        }
         power = times_x(&power);
     }
+    1023
 }
 
-// Residues with coefficients of x^0 and x^5 alone: those of no pattern of one error.
 #[test]
-fn two_coefficients(rt: HostRuntime) {
-    for a in 1..32u32 {
-        for b in 1..32u32 {
-            let is_unlisted = is_listed(rt.alloc(), a | (b << 25), None);
-            same(&rt, &(a, b, is_unlisted), &(a, b, true));
+fn one_error_at_each_location(rt: HostRuntime) {
+    same(&rt, &listed_errors(rt.alloc()), &1023);
+}
+
+// How many residues with these coefficients of x^0 and x^5 alone have no listing.
+fn unlisted_pairs(alloc: Global) -> usize {
+    let mut unlisted = 0usize;
+    for pair in 0..961u32 {
+        let residue = (pair % 31 + 1) | ((pair / 31 + 1) << 25);
+        if is_listed(alloc, residue, None) {
+            unlisted = unlisted.saturating_add(1);
         }
     }
+    unlisted
 }
 
-// The residue x + 2 vanishes at the element 2, the one root that serves, and not at the other.
+// These are the residues of no pattern of one error.
 #[test]
-fn one_root_of_two(rt: HostRuntime) {
-    let alloc = rt.alloc();
-    // The coefficients 2 and 1 beside the target 1.
-    let error = InvalidResidueError::new(&0x23u32, &1u32);
-    same(&rt, &tiny_lists::<1>(alloc, &error, &[], None), &true);
-    for place in 0..31usize {
-        let is_unlisted = tiny_lists::<1>(alloc, &error, &[place], None);
-        same(&rt, &(place, is_unlisted), &(place, true));
-    }
+fn two_coefficients(rt: HostRuntime) {
+    same(&rt, &unlisted_pairs(rt.alloc()), &961);
 }

@@ -1,29 +1,17 @@
 //! Out of memory.
 
-use super::listed::{Listing, corrector_for, is_found};
-use crate::tests::compare::holds;
+use super::listed::{Listing, corrector_for, lists};
+use crate::tests::compare::same;
 use bech32_checksum::{Bech32, Checksum};
 use bech32_correction::Corrector;
 use bech32_gf::gf32::Fe32;
 use linked_list_allocator::LocalHeap;
 use std::alloc::Global;
-use std::process::Abort;
 use testing_tools::codes::Degree13;
 use testing_tools::heaps::{InHeap, right_or_wants_memory};
 use testing_tools::known::{FOUR, FOUR_ERRORS};
 
-// Whether just this is listed, or nothing is; `None` where there is too little memory.
-fn lists<Ck: Checksum>(
-    corrector: &Corrector<Ck, &LocalHeap>,
-    want: Option<Listing>,
-) -> Option<bool> {
-    match corrector.bch_errors() {
-        Ok(found) => Some(is_found(found, want)),
-        Err(_) => None,
-    }
-}
-
-// The same of a clone.
+// Whether a clone lists just this, or nothing; `None` where there is too little memory.
 fn clone_lists<Ck: Checksum>(
     corrector: &Corrector<Ck, &LocalHeap>,
     want: Option<Listing>,
@@ -92,11 +80,6 @@ fn a_listing_or_out_of_memory(rt: HostRuntime) {
     right_or_wants_memory(rt.alloc(), &FourErrors, (64, 16)).expect(&rt, "right, or out of memory");
 }
 
-// Addresses with two and three wrong characters.
-const ADDRESS: &str = "bc1qar0srrr7xfkvy5l64qlydnw9re59gtzzwf5mdx";
-
-const OTHER_ADDRESS: &str = "bc1q9r0srrr7xfkvy5l64qlydnw9re59gtzzwf5mdx";
-
 // Whether Bech32 lists just this for a text that it refuses, or nothing.
 fn is_listed(
     heap: &LocalHeap,
@@ -108,33 +91,21 @@ fn is_listed(
     is_listed_by(found, erasures, want)
 }
 
+// An address with three wrong characters.
+const ADDRESS: &str = "bc1q9r0srrr7xfkvy5l64qlydnw9re59gtzzwf5mdx";
+
+// A single error, alone and beside an erasure; values at three erasures; and seven erasures, for
+// which nothing is listed.
 #[test]
 fn six_coefficients_take_no_memory(rt: HostRuntime) {
     let heap = LocalHeap::new(rt.alloc(), 0).expect(&rt, "memory");
-    let both = [(3, Fe32::Q), (0, Fe32::L)];
-    let rows: [(&str, &[usize], Option<Listing>); 11] = [
-        ("a12uel5q", &[], Some(&both[1..])),
-        ("a12uel5q", &[3], Some(&both)),
-        ("a12uel5q", &[3, 3], Some(&both)),
-        (
-            "a12uel5q",
-            &[0, 1, 2],
-            Some(&[(0, Fe32::L), (1, Fe32::Q), (2, Fe32::Q)]),
-        ),
-        ("a12uel5q", &[1, 2], None),
-        ("a12uel5q", &[0, 1, 2, 3], None),
-        ("a12uel5q", &[0, 1, 2, 3, 4, 5, 6], None),
-        ("b12uel5l", &[], Some(&[(6, Fe32::R)])),
-        (ADDRESS, &[], None),
-        (ADDRESS, &[0], Some(&[(0, Fe32::X), (20, Fe32::_3)])),
-        (
-            OTHER_ADDRESS,
-            &[37, 0, 20],
-            Some(&[(37, Fe32::C), (0, Fe32::X), (20, Fe32::_3)]),
-        ),
+    let three = [(37, Fe32::C), (0, Fe32::X), (20, Fe32::_3)];
+    let found = [
+        is_listed(&heap, ADDRESS, &[], None),
+        is_listed(&heap, "b12uel5l", &[], Some(&[(6, Fe32::R)])),
+        is_listed(&heap, "a12uel5q", &[3], Some(&[(3, Fe32::Q), (0, Fe32::L)])),
+        is_listed(&heap, ADDRESS, &[37, 0, 20], Some(&three)),
+        is_listed(&heap, "a12uel5q", &[0, 1, 2, 3, 4, 5, 6], None),
     ];
-    for (text, erasures, want) in rows {
-        let is_listed = is_listed(&heap, text, erasures, want);
-        holds(&rt, text, erasures, is_listed == Some(true));
-    }
+    same(&rt, &found, &[Some(true); 5]);
 }

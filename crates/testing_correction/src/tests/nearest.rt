@@ -1,7 +1,6 @@
-//! All patterns of few errors, as a program of its own lists them by trying each.
+//! Out of memory where all patterns of few errors are listed.
 
 use super::listed::{Listing, corrector_for};
-use crate::tests::compare::same;
 use bech32_checksum::{Bech32, Checksum};
 use bech32_correction::Corrector;
 use bech32_gf::gf32::Fe32;
@@ -9,7 +8,6 @@ use bech32_near::nearest_listings;
 use bech32_near::search::Listings;
 use linked_list_allocator::LocalHeap;
 use std::alloc::Global;
-use std::process::Abort;
 use testing_tools::heaps::{InHeap, right_or_wants_memory};
 
 // Whether these are the listings, in their order.
@@ -79,45 +77,8 @@ fn says(
 // A short text whose last character is wrong.
 const SHORT: (&str, usize) = ("a12uel5q", 6);
 
-// An address with two wrong characters, and with one more.
+// An address with two wrong characters.
 const ADDRESS: (&str, usize) = ("bc1qar0srrr7xfkvy5l64qlydnw9re59gtzzwf5mdx", 39);
-
-const OTHER_ADDRESS: (&str, usize) = ("bc1q9r0srrr7xfkvy5l64qlydnw9re59gtzzwf5mdx", 39);
-
-#[test]
-fn short_text(rt: HostRuntime) {
-    let heap = LocalHeap::new(rt.alloc(), 1 << 14).expect(&rt, "memory");
-    let last: Listing = &[(0, Fe32::L)];
-    let erased: Listing = &[(1, Fe32::Q), (2, Fe32::Q), (0, Fe32::L)];
-    let all_erased: Listing = &[(0, Fe32::L), (1, Fe32::Q), (2, Fe32::Q)];
-    let right = [
-        says(&heap, SHORT, &[], 0, &[]),
-        says(&heap, SHORT, &[], 2, &[last]),
-        says(&heap, SHORT, &[0], 0, &[last]),
-        says(&heap, SHORT, &[1, 2], 2, &[erased]),
-        says(&heap, SHORT, &[0, 1, 2], 1, &[all_erased]),
-        says(&heap, SHORT, &[0, 1, 2, 3], 2, &[]),
-    ];
-    same(&rt, &right, &[Some(true); 6]);
-}
-
-#[test]
-fn addresses(rt: HostRuntime) {
-    let heap = LocalHeap::new(rt.alloc(), 1 << 14).expect(&rt, "memory");
-    let two: Listing = &[(0, Fe32::X), (20, Fe32::_3)];
-    let three: Listing = &[(37, Fe32::C), (0, Fe32::X), (20, Fe32::_3)];
-    let first: Listing = &[(1, Fe32::Q), (38, Fe32::Q), (0, Fe32::X), (20, Fe32::_3)];
-    let second: Listing = &[(1, Fe32::J), (38, Fe32::K), (32, Fe32::J), (16, Fe32::N)];
-    let third: Listing = &[(1, Fe32::_3), (38, Fe32::D), (35, Fe32::_7), (24, Fe32::_2)];
-    let right = [
-        says(&heap, ADDRESS, &[], 1, &[]),
-        says(&heap, ADDRESS, &[], 2, &[two]),
-        says(&heap, ADDRESS, &[1, 38], 2, &[first, second, third]),
-        says(&heap, OTHER_ADDRESS, &[], 2, &[]),
-        says(&heap, OTHER_ADDRESS, &[37], 2, &[three]),
-    ];
-    same(&rt, &right, &[Some(true); 5]);
-}
 
 // Two errors of an address, and two of a short text beside as many erasures.
 #[derive(Drop)]

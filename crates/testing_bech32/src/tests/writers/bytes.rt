@@ -1,6 +1,6 @@
 use super::forms::{FORMS, Form, Given, to_writer, written};
-use super::given::{known, known_address, long_address, part};
-use super::known::{FRONT, data, kinds};
+use super::given::{known_address, long_address, part};
+use super::known::{data, kinds};
 use crate::tests::compare::same;
 use bech32::EncodeIoError;
 use bech32::segwit::VERSION_0;
@@ -72,22 +72,6 @@ pub fn told(outcome: &Result<(), EncodeIoError>) -> Told {
         Ok(()) => Ok(()),
         Err(EncodeIoError::TooLong(_)) => Err(None),
         Err(EncodeIoError::Write(e)) => Err(Some(e.kind())),
-    }
-}
-
-// Fails where a form fails, or writes other bytes.
-fn writes(rt: &impl Abort, alloc: Global, form: Form, given: &Given<'_>, want: &str) {
-    let mut bytes = Vec::new(alloc);
-    let outcome = told(&to_writer(form, &mut bytes, given));
-    let found = (form, outcome, bytes.as_slice());
-    same(rt, &found, &(form, Ok(()), want.as_bytes()));
-}
-
-#[test]
-fn known_texts_to_a_vec(rt: HostRuntime) {
-    for form in FORMS {
-        let (given, want) = known(&rt, form);
-        writes(&rt, rt.alloc(), form, &given, want);
     }
 }
 
@@ -188,6 +172,7 @@ fn every_byte_may_fail(rt: HostRuntime) {
         };
         each_byte_of_each_form_fails(&rt, rt.alloc(), &given);
     }
+    each_byte_of_each_form_fails(&rt, rt.alloc(), &long_address(&rt));
 }
 
 // Fails where a writer that takes nothing at its first call is called again, or another error is
@@ -263,12 +248,4 @@ fn the_error_is_the_writers_own(rt: HostRuntime) {
     for form in FORMS {
         tells_each(&rt, rt.alloc(), form);
     }
-}
-
-#[test]
-fn unchecked_addresses_are_cut(rt: HostRuntime) {
-    let (alloc, given) = (rt.alloc(), long_address(&rt));
-    writes(&rt, alloc, Form::Address, &given, FRONT);
-    writes(&rt, alloc, Form::LowerAddress, &given, FRONT);
-    each_byte_fails(&rt, alloc, Form::Address, &given);
 }

@@ -1,16 +1,13 @@
-//! Texts and addresses of every length, behind every human-readable part, of each version, and of a
-//! text that is too long.
+//! Texts and addresses of every length, behind every human-readable part, of each version, and cut.
 
-use super::bytes::{is_taken, told};
-use super::forms::{FORMS, Form, Given, text_to_fmt, text_to_writer};
-use super::given::part;
-use super::known::{LONGEST_PART, PROGRAM, data, zeros};
+use super::bytes::is_taken;
+use super::forms::{FORMS, Given};
+use super::given::{long_address, part};
+use super::known::{LONGEST_PART, PROGRAM, data};
 use super::texts::each_call_fails;
-use crate::tests::compare::same;
+use bech32::Fe32;
 use bech32::hrp::BC;
-use bech32::primitives::decode::CodeLengthError;
 use bech32::segwit::{VERSION_0, VERSION_1};
-use bech32::{Bech32m, Checksum, EncodeError, Fe32, Hrp};
 use std::alloc::Global;
 use std::process::Abort;
 
@@ -23,60 +20,49 @@ fn each_form_writes(rt: &impl Abort, alloc: Global, given: &Given<'_>) {
     }
 }
 
-#[test]
-fn every_piece_may_fail(rt: HostRuntime) {
-    let (hrp, data) = (part(&rt, "abcd"), data());
+// The same of so many bytes, from none to as many as have room.
+fn at_each_length(rt: &impl Abort, alloc: Global) {
+    let (hrp, data) = (part(rt, "abcd"), data());
     for size in 0..=data.len() {
         let given = Given {
             hrp,
             version: VERSION_1,
             data: &data[..size],
         };
-        each_form_writes(&rt, rt.alloc(), &given);
+        each_form_writes(rt, alloc, &given);
     }
 }
 
-#[test]
-fn every_piece_may_fail_behind_each_part(rt: HostRuntime) {
+// The same behind a human-readable part of each length.
+fn behind_each_part(rt: &impl Abort, alloc: Global) {
     for size in 1..=LONGEST_PART.len() {
-        let front = LONGEST_PART.get(..size).expect(&rt, "so many characters");
+        let front = LONGEST_PART.get(..size).expect(rt, "so many characters");
         let given = Given {
-            hrp: part(&rt, front),
+            hrp: part(rt, front),
             version: VERSION_0,
             data: &PROGRAM,
         };
-        each_form_writes(&rt, rt.alloc(), &given);
+        each_form_writes(rt, alloc, &given);
     }
 }
 
-#[test]
-fn every_piece_may_fail_at_each_version(rt: HostRuntime) {
+// The same of each version.
+fn at_each_version(rt: &impl Abort, alloc: Global) {
     for version in Fe32::iter_alpha() {
         let given = Given {
             hrp: BC,
             version,
             data: &PROGRAM,
         };
-        each_form_writes(&rt, rt.alloc(), &given);
+        each_form_writes(rt, alloc, &given);
     }
 }
 
-const TOO_LONG: EncodeError = EncodeError::TooLong(CodeLengthError {
-    encoded_length: 1024,
-    code_length: 1023,
-});
-
-// Fails where a text of zeros by a checksum is not refused for its length, or something is written.
-fn is_too_long<Ck: Checksum>(rt: &impl Abort, alloc: Global, hrp: Hrp) {
-    let mut text = String::new(alloc);
-    let outcome = text_to_fmt::<Ck, String>(Form::Text, &mut text, hrp, &zeros());
-    same(rt, &(outcome, text.as_str()), &(Err(TOO_LONG), ""));
-    let mut bytes = Vec::new(alloc);
-    let outcome = text_to_writer::<Ck, Vec<u8>>(Form::Text, &mut bytes, hrp, &zeros());
-    same(rt, &(told(&outcome), bytes.len()), &(Err(None), 0));
-}
-
 #[test]
-fn nothing_is_written_of_a_long_text(rt: HostRuntime) {
-    is_too_long::<Bech32m>(&rt, rt.alloc(), part(&rt, "abcde"));
+fn every_piece_may_fail(rt: HostRuntime) {
+    let alloc = rt.alloc();
+    at_each_length(&rt, alloc);
+    behind_each_part(&rt, alloc);
+    at_each_version(&rt, alloc);
+    each_form_writes(&rt, alloc, &long_address(&rt));
 }

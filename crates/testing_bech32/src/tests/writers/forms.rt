@@ -1,20 +1,18 @@
 //! The forms of a call that writes a text, and what each writes.
 
-use crate::tests::calls::text_by;
 use bech32::primitives::encode::text_in;
 use bech32::segwit::{
     encode_lower_to_fmt_unchecked, encode_lower_to_writer_unchecked, encode_to_fmt_unchecked,
     encode_to_writer_unchecked, encode_upper_to_fmt_unchecked, encode_upper_to_writer_unchecked,
 };
 use bech32::{
-    Bech32, Bech32m, Checksum, EncodeError, EncodeIoError, Fe32, Hrp, encode_lower_to_fmt,
+    Bech32, Bech32m, Checksum, EncodeError, EncodeIoError, Fe32, Hrp, encode, encode_lower_to_fmt,
     encode_lower_to_writer, encode_to_fmt, encode_to_writer, encode_upper_to_fmt,
     encode_upper_to_writer,
 };
 use std::alloc::Global;
 use std::process::Abort;
 use std::{fmt, io};
-use testing_tools::plain::PlainChecksum;
 
 /// What is written: a text by Bech32, or an address without any test.
 #[derive(Clone, Copy, Debug, PartialEq)]
@@ -44,8 +42,8 @@ pub struct Given<'a> {
     pub data: &'a [u8],
 }
 
-/// Writes a text by a checksum to a `fmt::Write`.
-pub fn text_to_fmt<Ck: Checksum, W: fmt::Write>(
+// Writes a text by a checksum to a `fmt::Write`.
+fn text_to_fmt<Ck: Checksum, W: fmt::Write>(
     form: Form,
     w: &mut W,
     hrp: Hrp,
@@ -73,8 +71,8 @@ pub fn to_fmt<W: fmt::Write>(form: Form, w: &mut W, given: &Given<'_>) -> Result
     }
 }
 
-/// Writes a text by a checksum to an `io::Write`.
-pub fn text_to_writer<Ck: Checksum, W: io::Write>(
+// Writes a text by a checksum to an `io::Write`.
+fn text_to_writer<Ck: Checksum, W: io::Write>(
     form: Form,
     w: &mut W,
     hrp: Hrp,
@@ -116,7 +114,7 @@ fn address_by<Ck: Checksum>(rt: &impl Abort, alloc: Global, given: &Given<'_>) -
 fn lower_text(rt: &impl Abort, alloc: Global, form: Form, given: &Given<'_>) -> String {
     match form {
         Form::Text | Form::LowerText | Form::UpperText => {
-            let text = text_by(PlainChecksum::Bech32, alloc, given.hrp, given.data);
+            let text = encode::<Bech32>(alloc, given.hrp, given.data);
             text.expect(rt, "a text")
         }
         _ if given.version == Fe32::Q => address_by::<Bech32>(rt, alloc, given),

@@ -1,7 +1,7 @@
 //! What calls that write a text are given, one after another.
 
-use super::forms::{Form, Given};
-use super::known::{ADDRESS, ADDRESS_PROGRAM, LONG_PART, PROGRAM, TEXT, UPPER_ADDRESS, UPPER_TEXT};
+use super::forms::Given;
+use super::known::{ADDRESS_PROGRAM, LONG_PART};
 use bech32::Hrp;
 use bech32::hrp::BC;
 use bech32::segwit::{VERSION_0, VERSION_1};
@@ -18,25 +18,6 @@ pub fn known_address() -> Given<'static> {
         hrp: BC,
         version: VERSION_0,
         data: &ADDRESS_PROGRAM,
-    }
-}
-
-/// What a text of 43 characters is of.
-pub fn known_text(rt: &impl Abort) -> Given<'static> {
-    Given {
-        hrp: part(rt, "test"),
-        version: VERSION_0,
-        data: &PROGRAM,
-    }
-}
-
-/// What a form is given of which it writes a known text or address, and that.
-pub fn known(rt: &impl Abort, form: Form) -> (Given<'static>, &'static str) {
-    match form {
-        Form::Text | Form::LowerText => (known_text(rt), TEXT),
-        Form::UpperText => (known_text(rt), UPPER_TEXT),
-        Form::Address | Form::LowerAddress => (known_address(), ADDRESS),
-        Form::UpperAddress => (known_address(), UPPER_ADDRESS),
     }
 }
 

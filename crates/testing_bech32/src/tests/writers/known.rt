@@ -13,22 +13,14 @@ pub const TEXT: &str = "test1lu08d6qejxtdg4y5r3zarvary0c5xw7kw79nnx";
 
 pub const UPPER_TEXT: &str = "TEST1LU08D6QEJXTDG4Y5R3ZARVARY0C5XW7KW79NNX";
 
-/// The program of the first address in BIP-173's examples, and the address.
+/// The program of the first address in BIP-173's examples.
 pub const ADDRESS_PROGRAM: [u8; 20] = [
     0x75, 0x1e, 0x76, 0xe8, 0x19, 0x91, 0x96, 0xd4, 0x54, 0x94, 0x1c, 0x45, 0xd1, 0xb3, 0xa3, 0x23,
     0xf1, 0x43, 0x3b, 0xd6,
 ];
 
-pub const ADDRESS: &str = "bc1qw508d6qejxtdg4y5r3zarvary0c5xw7kv8f3t4";
-
-pub const UPPER_ADDRESS: &str = "BC1QW508D6QEJXTDG4Y5R3ZARVARY0C5XW7KV8F3T4";
-
 /// The human-readable part whose address of 40 bytes would have 91 characters.
 pub const LONG_PART: &str = "anhrpthatis19charsx";
-
-/// The first 90 of those characters at version 1, for 40 zeros, by the reference code of BIP-350.
-pub const FRONT: &str =
-    "anhrpthatis19charsx1pqqqqqqqqqqqqqqqqqqqqqqqqqqqqqqqqqqqqqqqqqqqqqqqqqqqqqqqqqqqqqqqqyn4jn";
 
 /// A human-readable part of 83 characters.
 pub const LONGEST_PART: &str =
@@ -37,11 +29,6 @@ pub const LONGEST_PART: &str =
 /// As many bytes as the code has room for behind a human-readable part of four characters.
 pub fn data() -> [u8; 632] {
     [0xa5; 632]
-}
-
-/// As many zeros, of which a human-readable part of five characters makes a text that is too long.
-pub fn zeros() -> [u8; 632] {
-    [0; 632]
 }
 
 /// Each kind of error.

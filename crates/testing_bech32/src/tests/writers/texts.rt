@@ -1,11 +1,8 @@
-use super::forms::{FORMS, Form, Given, to_fmt, written};
-use super::given::{known, long_address, part};
-use super::known::{FRONT, PROGRAM, TEXT, UPPER_TEXT};
+use super::forms::{Form, Given, to_fmt, written};
+use super::given::part;
+use super::known::{PROGRAM, TEXT, UPPER_TEXT};
 use crate::tests::compare::same;
-use bech32::{
-    Bech32, Checksum, EncodeError, Hrp, encode_in, encode_lower, encode_lower_in, encode_upper,
-    encode_upper_in,
-};
+use bech32::{Bech32, Checksum, EncodeError, Hrp, encode_in, encode_lower_in, encode_upper_in};
 use linked_list_allocator::LocalHeap;
 use std::alloc::Global;
 use std::fmt;
@@ -29,19 +26,6 @@ impl fmt::Write for Budget {
         self.text.push_str(s)?;
         Ok(())
     }
-}
-
-// Fails where the known text is another one by a checksum, in lower or in upper case.
-fn encodes<Ck: Checksum>(rt: &impl Abort, alloc: Global) {
-    let hrp = part(rt, "test");
-    let lower = encode_lower::<Ck>(alloc, hrp, &PROGRAM).expect(rt, "a text");
-    let upper = encode_upper::<Ck>(alloc, hrp, &PROGRAM).expect(rt, "a text");
-    same(rt, &(lower.as_str(), upper.as_str()), &(TEXT, UPPER_TEXT));
-}
-
-#[test]
-fn known_texts_in_memory(rt: HostRuntime) {
-    encodes::<Bech32>(&rt, rt.alloc());
 }
 
 // Whether this text was made; `None` where there is too little memory.
@@ -94,21 +78,6 @@ fn encodes_or_wants_memory(rt: HostRuntime) {
     wants(&rt, alloc, &Known::Either(hrp));
     let lower = wants(&rt, alloc, &Known::Lower(hrp));
     same(&rt, &wants(&rt, alloc, &Known::Upper(hrp)), &lower);
-}
-
-// Fails where a form fails, or writes another text.
-fn writes(rt: &impl Abort, alloc: Global, form: Form, given: &Given<'_>, want: &str) {
-    let mut text = String::new(alloc);
-    let outcome = to_fmt(form, &mut text, given);
-    same(rt, &(form, outcome, text.as_str()), &(form, Ok(()), want));
-}
-
-#[test]
-fn known_texts_to_a_string(rt: HostRuntime) {
-    for form in FORMS {
-        let (given, want) = known(&rt, form);
-        writes(&rt, rt.alloc(), form, &given, want);
-    }
 }
 
 // What comes of a text at a writer: the outcome, how many calls were made, and whether what they
@@ -172,13 +141,4 @@ pub fn each_call_fails(rt: &impl Abort, alloc: Global, form: Form, given: &Given
     let whole = written(rt, alloc, form, given);
     let calls = calls_of(rt, alloc, (form, given), &whole);
     same(rt, &(form, 1 <= calls && calls < 10), &(form, true));
-}
-
-#[test]
-fn unchecked_addresses_are_cut(rt: HostRuntime) {
-    let (alloc, given) = (rt.alloc(), long_address(&rt));
-    writes(&rt, alloc, Form::Address, &given, FRONT);
-    writes(&rt, alloc, Form::LowerAddress, &given, FRONT);
-    let (outcome, _, _) = cut_at(alloc, Form::Address, &given, &[], 0);
-    same(&rt, &outcome, &Err(EncodeError::Fmt(fmt::Error)));
 }
