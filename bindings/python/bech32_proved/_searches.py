@@ -3,6 +3,7 @@
 import ctypes
 from typing import Any, Callable, Tuple
 
+from . import _declared
 from ._library import MAX_TEXT, Lent, refuse
 
 # The bytes that a search is lent: at first, with as many more for each character of a text; at most; and the factor
@@ -10,10 +11,10 @@ from ._library import MAX_TEXT, Lent, refuse
 LEAST_MEMORY, OF_A_CHARACTER, MOST_MEMORY, _GROWTH = 1 << 16, 512, 1 << 24, 8
 
 # The lent memory does not suffice.
-_NO_MEMORY = 91
+_NO_MEMORY = _declared.BECH32_NO_MEMORY
 
 # A buffer is too small.
-_NO_ROOM = 92
+_NO_ROOM = _declared.BECH32_NO_ROOM
 
 
 class Search:

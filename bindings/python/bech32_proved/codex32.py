@@ -43,10 +43,10 @@ from ._library import listed, refuse, secretly, string, utf8, whole
 from .texts import ALPHABET
 
 # Where the parts stand in a string, and what the strings of one set have in common.
-_IDENTIFIER = slice(4, 8)
-_SHARE_INDEX = slice(8, 9)
-_PAYLOAD = 9
-_COMMON = slice(3, 8)
+_IDENTIFIER = slice(_declared.CODEX32_IDENTIFIER_AT, _declared.CODEX32_SHARE_INDEX_AT)
+_SHARE_INDEX = slice(_declared.CODEX32_SHARE_INDEX_AT, _declared.CODEX32_PAYLOAD_AT)
+_PAYLOAD = _declared.CODEX32_PAYLOAD_AT
+_COMMON = slice(_declared.CODEX32_THRESHOLD_AT, _declared.CODEX32_SHARE_INDEX_AT)
 
 # The most characters of a string, and of one of either length; the most bytes of one; the most strings of a set, and
 # the most shares that a secret is split into.
@@ -66,29 +66,29 @@ _NOT_UTF8 = 2
 _NO_TEXT = "the text is not UTF-8"
 
 # A character of a payload is not of the alphabet, or its letters have both cases; and what is said of these.
-_INVALID_CHARACTER = 21
-_MIXED_CASE = 22
+_INVALID_CHARACTER = _declared.CODEX32_INVALID_CHARACTER
+_MIXED_CASE = _declared.CODEX32_MIXED_CASE
 _OF_A_PAYLOAD = {
     _INVALID_CHARACTER: "a character of the payload is not of the alphabet",
     _MIXED_CASE: "the payload has letters of both cases",
 }
 
 # There is no nearest text.
-_NO_NEAREST = 34
+_NO_NEAREST = _declared.CODEX32_NO_NEAREST
 
 # A share is of another set than the first, or an index stands twice.
-_OTHER_SET = 62
-_INDEX_TWICE = 63
+_OTHER_SET = _declared.CODEX32_OTHER_SET
+_INDEX_TWICE = _declared.CODEX32_INDEX_TWICE
 
 # There are not as many random bytes as are drawn.
-_BAD_RANDOM = 66
+_BAD_RANDOM = _declared.CODEX32_BAD_RANDOM
 
 # What is given is no threshold, or no share index.
-_BAD_THRESHOLD = 83
-_NO_SHARE_INDEX = 86
+_BAD_THRESHOLD = _declared.CODEX32_BAD_THRESHOLD
+_NO_SHARE_INDEX = _declared.CODEX32_NO_SHARE_INDEX
 
 # Too many bits are left over, or a buffer is too small: the string itself is accepted.
-_BITS_LEFT_OVER = 87
+_BITS_LEFT_OVER = _declared.CODEX32_BITS_LEFT_OVER
 _NO_ROOM = 92
 
 
