@@ -43,10 +43,10 @@ from ._library import listed, refuse, secretly, string, utf8, whole
 from .texts import ALPHABET
 
 # Where the parts stand in a string, and what the strings of one set have in common.
-_IDENTIFIER = slice(4, 8)
-_SHARE_INDEX = slice(8, 9)
-_PAYLOAD = 9
-_COMMON = slice(3, 8)
+_IDENTIFIER = slice(_declared.CODEX32_IDENTIFIER_AT, _declared.CODEX32_SHARE_INDEX_AT)
+_SHARE_INDEX = slice(_declared.CODEX32_SHARE_INDEX_AT, _declared.CODEX32_PAYLOAD_AT)
+_PAYLOAD = _declared.CODEX32_PAYLOAD_AT
+_COMMON = slice(_declared.CODEX32_THRESHOLD_AT, _declared.CODEX32_SHARE_INDEX_AT)
 
 # The most characters of a string, and of one of either length; the most bytes of one; the most strings of a set, and
 # the most shares that a secret is split into.

@@ -1,6 +1,7 @@
 //! Characters that were left out, put in or swapped in a text.
 
 use crate::checksum::CorrectingChecksum;
+use crate::declared;
 use crate::lent::{Lent, MOST_MEMORY};
 use crate::text::{ascii, in_case_of};
 use crate::{raw, Refusal};
@@ -11,8 +12,8 @@ use std::fmt;
 const LEAST_TEXTS: usize = 8;
 
 // The kinds of edits, as the library numbers them.
-const SWAPPED: u8 = 1;
-const LEFT_OUT: u8 = 2;
+const SWAPPED: u8 = declared::BECH32_SWAPPED as u8;
+const LEFT_OUT: u8 = declared::BECH32_LEFT_OUT as u8;
 
 /// What is done to a mistyped text to make another of it. A place is the number of characters that stand
 /// before: people count from 1, as this edit's words do. Characters have the case of the mistyped text.

@@ -110,9 +110,9 @@ fn length_of(kind: u8, length: usize) -> usize {
     }
 }
 
-const SWAPPED: u8 = 1;
-const LEFT_OUT: u8 = 2;
-const PUT_IN: u8 = 3;
+const SWAPPED: u8 = declared::BECH32_SWAPPED as u8;
+const LEFT_OUT: u8 = declared::BECH32_LEFT_OUT as u8;
+const PUT_IN: u8 = declared::BECH32_PUT_IN as u8;
 
 fn suggestion(s: &str, kind: u8, place: usize, made: &str) -> Suggestion {
     let (old, text) = (s.as_bytes(), in_case_of(s, made.to_owned()));
