@@ -1,13 +1,6 @@
-mod block;
 mod compare;
-mod conversions;
-mod field;
 mod fields;
 mod fieldvec;
-mod gf32;
-mod gf32_ext;
 mod lfsr;
 mod memory;
-mod operators;
 mod polynomial;
-mod remainder;

@@ -1,5 +1,5 @@
-//! Tests of `bech32_bits`, `devices`, `bech32_hrp`, `bech32_checksum`, `bech32_encode` and
-//! `bech32_decode`.
+//! Tests of the layers up to encoders, with devices that fail, iterators that misbehave and memory
+//! that runs out. What the layers give is in the stored run of `vector_rows`.
 #![tactic(auto)]
 
 #[cfg(test)]

@@ -1,15 +1,8 @@
 mod adaptors;
-mod addresses;
 mod bits;
 mod compare;
 mod device;
 mod encode;
-mod engine;
-mod hrp;
 mod items;
-mod messages;
-mod packed;
 mod pieces;
-mod readers;
 mod roots;
-mod rules;

@@ -47,13 +47,15 @@
 //! - `near`, a checksum, a text, erasures and a number of errors: the texts near it;
 //! - `nearest`, a text, erasures, a number of errors and a window: all listings by Bech32;
 //! - `edited`: as `edits`;
-//! - `detects`, a checksum and a number of characters: whether it detects four errors in them.
+//! - `detects`, a checksum and a number of characters: whether it detects four errors in them;
+//! - what the modules `of_fields` and `of_parts` list.
 //!
 //! Elements are their characters, the constant coefficient first; a generator goes from its highest
 //! coefficient down, without the leading one; `-` stands for nothing. What the rows in `stdin` give
 //! was made twice over and equal, and is in `stdout`: by a reference model written from the
 //! definitions alone, and by the Rust crate bech32 0.12.0; the edits, which that crate does not
-//! have, by two models; Liquid's addresses, long texts and descriptors by one model each.
+//! have, by two models; Liquid's addresses, long texts, descriptors and the rows of `of_fields` and
+//! `of_parts` by one model each.
 #![tactic(auto)]
 
 mod appended;
@@ -67,6 +69,8 @@ mod fields;
 mod listings;
 mod long_texts;
 mod of_corrections;
+mod of_fields;
+mod of_parts;
 mod of_texts;
 mod registers;
 mod rows;

@@ -7,8 +7,8 @@ mod near;
 mod printed;
 mod ways;
 
-use crate::edits;
-use crate::rows::{no_row, word};
+use crate::rows::word;
+use crate::{edits, of_fields};
 use std::alloc::{AllocError, Global};
 
 /// What a row gives that begins with one of these words.
@@ -22,6 +22,6 @@ pub fn reply(alloc: Global, words: &[&str]) -> Result<String, AllocError> {
         "nearest" => near::listings_reply(alloc, words),
         "edited" => edits::reply(alloc, words),
         "detects" => detection::reply(alloc, words),
-        _ => no_row(alloc),
+        _ => of_fields::reply(alloc, words),
     }
 }

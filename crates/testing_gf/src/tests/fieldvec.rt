@@ -1,23 +1,8 @@
-use crate::tests::compare::{same, same_items};
+use crate::tests::compare::same;
 use bech32_gf::gf32::Fe32;
 use bech32_poly::fieldvec::{FieldVec, NO_ALLOC_MAX_LENGTH};
 use linked_list_allocator::LocalHeap;
 use std::alloc::{AllocError, Global};
-
-// Two elements, of which the first one is set anew.
-#[test]
-fn elements(rt: HostRuntime) {
-    let mut vector = FieldVec::new(rt.alloc());
-    same(&rt, &vector.is_empty(), &true);
-    vector.push(Fe32::P).expect(&rt, "memory");
-    vector.push(Fe32::Z).expect(&rt, "memory");
-    vector.set(0, Fe32::J);
-    same(&rt, &(vector.len(), vector.is_empty()), &(2, false));
-    let want = [Fe32::J, Fe32::Z];
-    same_items(&rt, vector.as_slice(), &want);
-    let copy = vector.clone().expect(&rt, "memory");
-    same_items(&rt, copy.as_slice(), &want);
-}
 
 // How many elements a vector has that could be cloned.
 fn length_of(made: Result<FieldVec<Fe32, &LocalHeap>, AllocError>) -> Option<usize> {

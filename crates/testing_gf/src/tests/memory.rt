@@ -2,7 +2,6 @@
 
 ghost use Rattle.std.specs.Prelude.{◌≡◌, ◌<◌, ◌≤◌, length};
 
-use crate::tests::block::blocks::TINY;
 use bech32_block::{PrintError, PrintImpl};
 use bech32_gf::gf32::Fe32;
 use bech32_poly::polynomial::remainder;
@@ -36,13 +35,22 @@ fn refuses_degree_1(alloc: Global, heap: &LocalHeap) -> bool {
     }
 }
 
+// The block of a generator and a target, with memory that does not run out.
+fn block_of(alloc: Global, generator: &[Fe32; 2], target: &[Fe32; 2]) -> Option<String> {
+    match PrintImpl::<Fe32>::new(alloc, "Tiny", generator, target) {
+        Ok(block) => Some(shown(alloc, &block)),
+        Err(_) => None,
+    }
+}
+
 // Whether a generator of degree 1 is refused, and the block of a small one is printed as ever.
 fn prints_a_block(alloc: Global, heap: &LocalHeap) -> Option<bool> {
+    let (generator, target) = ([Fe32::X, Fe32::G], [Fe32::Q, Fe32::P]);
     if !refuses_degree_1(alloc, heap) {
         return Some(false);
     }
-    match block(alloc, heap, &[Fe32::X, Fe32::G], &[Fe32::Q, Fe32::P]) {
-        Ok(text) => Some(text.as_str() == TINY),
+    match block(alloc, heap, &generator, &target) {
+        Ok(text) => Some(block_of(alloc, &generator, &target) == Some(text)),
         Err(PrintError::Memory) => None,
         Err(_) => Some(false),
     }

@@ -4,7 +4,7 @@ ghost use Rattle.std.specs.Prelude.{◌≡◌};
 ghost use Rattle.std.specs.Iterator.{IsFinite};
 ghost use Rattle.bech32_encode.specs.Encoder.{encoder_elements};
 
-use crate::tests::compare::{counts_down, same};
+use crate::tests::compare::same;
 use bech32_checksum::Checksum;
 use bech32_encode::{Checksummed, Encoder};
 use bech32_gf::gf32::Fe32;
@@ -31,19 +31,6 @@ pub fn encoder_behind<'a, I: Iterator<Item = Fe32>, Ck: Checksum>(
         Some(version) => encoder.with_witness_version(version),
         None => encoder,
     }
-}
-
-/// Fails where the elements of a text are other ones, or miscounted.
-pub fn elements_count_down<I: Iterator<Item = Fe32> + Drop, Ck: Checksum>(
-    rt: &impl Abort,
-    front: Front<'_>,
-    elements: I,
-    want: &[Fe32],
-)
-    requires always { (s : I) → I.can_next s }
-{
-    let mut fes = encoder_behind::<I, Ck>(front, elements).fes();
-    counts_down(rt, &mut fes, want);
 }
 
 /// Fails where the elements of a text are other ones.

@@ -1,9 +1,8 @@
 //! Comparisons that end a test where they fail.
 
-use std::alloc::Global;
-use std::fmt::{Debug, Display};
+use std::fmt::Debug;
 use std::process::Abort;
-use testing_tools::compare::{first_difference, shown};
+use testing_tools::compare::first_difference;
 
 /// Fails where the two differ.
 pub fn same<T: PartialEq + Debug>(rt: &impl Abort, got: &T, want: &T) {
@@ -13,11 +12,6 @@ pub fn same<T: PartialEq + Debug>(rt: &impl Abort, got: &T, want: &T) {
 /// Fails where the two differ.
 pub fn same_items<T: PartialEq + Debug>(rt: &impl Abort, got: &[T], want: &[T]) {
     assert_eq!(rt; got, want);
-}
-
-/// Fails where a value prints another text.
-pub fn prints<T: Display>(rt: &impl Abort, alloc: Global, value: &T, want: &str) {
-    same(rt, &shown(alloc, value).as_str(), &want);
 }
 
 /// Fails where an iterator says otherwise how many items come, or begins with other ones.
@@ -43,28 +37,4 @@ pub fn step<T, I: Iterator<Item = T>>(items: &mut I) -> ((usize, Option<usize>),
     requires { I.can_next items.old }
 {
     (items.size_hint(), items.next())
-}
-
-/// Fails where an iterator gives other items than these, or more behind them, or says otherwise how
-/// many are left.
-pub fn counts_down<T: PartialEq + Debug + Copy, I: Iterator<Item = T>>(
-    rt: &impl Abort,
-    items: &mut I,
-    want: &[T],
-)
-    requires always { (s : I) → I.can_next s }
-{
-    let mut left = want.len();
-    for item in want {
-        same(rt, &step(items), &(exactly(left), Some(*item)));
-        left = left.saturating_sub(1);
-    }
-    for _ in 0..3 {
-        same(rt, &step(items), &(exactly(0), None));
-    }
-}
-
-/// A clone; fails where there is no memory for it.
-pub fn clone_of<T: Clone>(rt: &impl Abort, value: &T) -> T {
-    value.clone().expect(rt, "memory")
 }

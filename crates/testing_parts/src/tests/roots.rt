@@ -5,11 +5,9 @@ ghost use Rattle.bech32_gf.specs.Fe32 as fe32;
 ghost use Rattle.bech32_checksum.specs.Roots.{HasLawfulRoots, singleton_bound};
 ghost use Rattle.testing_parts.specs.TestWords.{words_1, words_1_keep, code_1};
 
-use crate::tests::compare::{same, same_items};
-use bech32_checksum::{Bech32, Bech32m, Checksum, LocatorField};
-use bech32_gf::field::{ExtensionField, Field};
+use crate::tests::compare::same_items;
+use bech32_checksum::Checksum;
 use bech32_gf::gf32::Fe32;
-use bech32_gf_ext::Fe1024;
 use testing_tools::codes::Altered;
 
 // The generator x + 1, for texts of `LONGEST` characters: each power of the base 1, whose order is
@@ -78,67 +76,49 @@ fn roots_in_a_row<Ck: Checksum>() -> usize
     Ck::ROOT_EXPONENTS_END - Ck::ROOT_EXPONENTS_START + 1
 }
 
-/// Whether the roots pass the test, and how many of them stand in a row where they do.
-pub fn tested<Ck: Checksum>() -> (bool, Option<usize>) {
+// How many roots stand in a row, where they pass the test.
+fn tested<Ck: Checksum>() -> Option<usize> {
     if !Ck::sanity_check() {
-        (false, None)
+        None
     } else if Ck::CHECKSUM_LENGTH > 0 {
-        (true, Some(roots_in_a_row::<Ck>()))
+        Some(roots_in_a_row::<Ck>())
     } else {
-        (true, None)
+        Some(0)
     }
 }
 
-// The order of an element of any field over that of 32 elements, as a checksum asks for it; nothing
-// for zero.
-fn order_of<E: ExtensionField<BaseField = Fe32>>(x: E) -> Option<usize> {
-    if x.is_zero() {
-        return None;
-    }
-    Some(LocatorField::order(x))
+// The same of Bech32 with other exponents, and for texts of another length.
+fn altered<const FIRST: usize, const LAST: usize, const LONGEST: usize>() -> Option<usize> {
+    tested::<Altered<FIRST, LAST, LONGEST>>()
 }
 
-#[test]
-fn roots_of_both(rt: HostRuntime) {
-    let orders = [order_of(Fe32::GENERATOR), order_of(Fe1024::GENERATOR)];
-    same_items(&rt, &orders, &[Some(31), Some(1023)]);
-    let exponents = [Bech32m::ROOT_EXPONENTS_START, Bech32m::ROOT_EXPONENTS_END];
-    same_items(&rt, &exponents, &[24, 26]);
-    same(&rt, &Bech32::ROOT_GENERATOR, &Bech32m::ROOT_GENERATOR);
-}
-
-// Whether the roots of Bech32 with other exponents, and for texts of another length, pass the test.
-fn altered_is_sane<const FIRST: usize, const LAST: usize, const LONGEST: usize>() -> bool {
-    <Altered<FIRST, LAST, LONGEST>>::sanity_check()
-}
-
-// Whether those of the generator x + 1 do, from the exponent 3 on.
-fn degree_1_is_sane<const LAST: usize, const LONGEST: usize>() -> bool {
-    <Degree1<LAST, LONGEST>>::sanity_check()
+// The same of the generator x + 1, from the exponent 3 on.
+fn degree_1<const LAST: usize, const LONGEST: usize>() -> Option<usize> {
+    tested::<Degree1<LAST, LONGEST>>()
 }
 
 #[test]
 fn altered_roots(rt: HostRuntime) {
     let lawful = [
-        altered_is_sane::<24, 26, 1023>(),
-        altered_is_sane::<24, 24, 1>(),
+        altered::<24, 26, 1023>(),
+        altered::<24, 24, 1>(),
         // The same powers once more.
-        altered_is_sane::<1047, 1049, 1023>(),
+        altered::<1047, 1049, 1023>(),
         // As many roots as the degree.
-        degree_1_is_sane::<3, 1>(),
+        degree_1::<3, 1>(),
     ];
-    same_items(&rt, &lawful, &[true; 4]);
+    same_items(&rt, &lawful, &[Some(3), Some(1), Some(3), Some(1)]);
     let unlawful = [
-        altered_is_sane::<24, 26, 1024>(),
-        altered_is_sane::<24, 27, 1023>(),
-        altered_is_sane::<23, 26, 1023>(),
-        altered_is_sane::<27, 27, 1023>(),
-        altered_is_sane::<25, 24, 1023>(),
-        altered_is_sane::<0, { usize::MAX }, 1023>(),
+        altered::<24, 26, 1024>(),
+        altered::<24, 27, 1023>(),
+        altered::<23, 26, 1023>(),
+        altered::<27, 27, 1023>(),
+        altered::<25, 24, 1023>(),
+        altered::<0, { usize::MAX }, 1023>(),
         // A base of order 1 in a code as long as that of Bech32.
-        degree_1_is_sane::<3, 1023>(),
+        degree_1::<3, 1023>(),
         // One root more than the degree.
-        degree_1_is_sane::<4, 1>(),
+        degree_1::<4, 1>(),
     ];
-    same_items(&rt, &unlawful, &[false; 8]);
+    same_items(&rt, &unlawful, &[None; 8]);
 }
