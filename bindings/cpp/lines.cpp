@@ -1,5 +1,5 @@
 /*
- * The commands of b32, c32 and mend by bech32.hpp and codex32.hpp: put beside portable/lines/lines.c and words.c, in
+ * The commands of b32, c32 and mend by bech32.hpp and codex32.hpp: put beside translator/lines/lines.c and words.c, in
  * place of its other files, they reply to the stored lines of these programs (test compares the replies).
  */
 #include <array>

@@ -162,7 +162,7 @@ OWN void put_64(u8 *p, u64 x) {
     p[7] = (u8)(x >> 56 & 255);
 }
 
-/* ---- the instructions that C has no sign for, by the names that portable/translate gives them. A number is held without
+/* ---- the instructions that C has no sign for, by the names that translator/translate gives them. A number is held without
  * a sign; where an instruction reads it with one, that is worked out on numbers without. */
 
 /* In the order of numbers with a sign. */

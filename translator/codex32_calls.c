@@ -1,5 +1,5 @@
 /*
- * The functions of codex32.h, called as those of bech32.h are (portable/bech32_calls.c), and refused with
+ * The functions of codex32.h, called as those of bech32.h are (translator/bech32_calls.c), and refused with
  * CODEX32_NO_MEMORY in their place, a text, a payload or the texts of a set. A string is a secret: the library's stack is
  * filled with zeros before a call ends.
  */

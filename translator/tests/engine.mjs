@@ -1,6 +1,6 @@
 // The answers of Node's engine to each function of an object (tests/assemble.py): a hash of those to 841 pairs of numbers.
 //
-//     node --experimental-wasm-memory64 portable/tests/engine.mjs OBJECT
+//     node --experimental-wasm-memory64 translator/tests/engine.mjs OBJECT
 import fs from 'node:fs';
 
 const ALL = (1n << 64n) - 1n;

@@ -1,7 +1,7 @@
 /*
  * Replies to each line of standard input, as the programs b32, c32 and mend do, over the libraries as C (dist/):
  *
- *     cc -O2 -I dist portable/lines/[a-z]*.c dist/bech32.c dist/codex32.c -o lines
+ *     cc -O2 -I dist translator/lines/[a-z]*.c dist/bech32.c dist/codex32.c -o lines
  *     ./lines b32
  *
  * `./run` does so where the toolchain is missing, and `./run --help` lists the lines. These files are tested, by the
