@@ -54,7 +54,7 @@ fn come_back<Ck: Checksum>(alloc: Global, hrp: Hrp, bytes: &[u8]) -> usize {
     bytes.len().saturating_add(1)
 }
 
-// As many bytes as fit the code behind a part of one character.
+// As many bytes as fit the code after a part of one character.
 #[test]
 fn decodes_every_length(rt: HostRuntime) {
     let hrp = Hrp::parse("a").expect(&rt, "a human-readable part");

@@ -73,7 +73,7 @@ fn unlisted_with(alloc: Global, a: Fe32) -> usize {
     unlisted
 }
 
-// The same of all products.
+// How many of all products, other than zero, have no listing.
 fn unlisted_products(alloc: Global) -> usize {
     let mut unlisted = 0usize;
     for a in Fe32::iter_alpha() {

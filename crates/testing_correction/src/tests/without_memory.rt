@@ -16,7 +16,7 @@ enum Said {
     Memory,
 }
 
-// The same of an error.
+// What an error says.
 fn reply_of(error: CorrectError) -> Said {
     match error {
         CorrectError::Refused(_) => Said::Refused,

@@ -63,7 +63,7 @@ fn of_reading(
     }
 }
 
-// The same of a text that one walk reads.
+// What is looked up for a text that one walk reads and Bech32 refuses.
 fn of_text(alloc: Global, text: &str, list: &str) -> Result<String, AllocError> {
     let erasures = numbers(alloc, list)?;
     match Reading::<Bech32>::of(text.as_bytes()) {

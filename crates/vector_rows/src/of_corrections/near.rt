@@ -11,7 +11,7 @@ use bech32_correction::Corrector;
 use std::alloc::{AllocError, Global};
 use std::marker::PhantomData;
 
-// Puts a text behind others.
+// Appends a text, after a space where there are others.
 fn push(line: &mut String, text: &str) -> Result<(), AllocError> {
     if !line.is_empty() {
         line.push(' ')?;
@@ -67,7 +67,7 @@ pub fn reply(alloc: Global, words: &[&str]) -> Result<String, AllocError> {
     }
 }
 
-// Listings, each behind a bar.
+// The number of listings, and each of them after a bar.
 fn listings_shown(alloc: Global, listings: &Listings<Global>) -> Result<String, AllocError> {
     let mut line = format!(in alloc; "{}", listings.len())?;
     for listing in listings {

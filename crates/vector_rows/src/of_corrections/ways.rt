@@ -33,7 +33,7 @@ pub fn corrector_for<Ck: Checksum>(
     corrector_of::<Ck>(alloc, &error, window)
 }
 
-// Puts a location with its value behind others.
+// Appends a location with its value, after a space where there are others.
 fn push(alloc: Global, line: &mut String, error: (usize, Fe32)) -> Result<(), AllocError> {
     if !line.is_empty() {
         line.push(' ')?;
@@ -51,7 +51,7 @@ pub fn shown(alloc: Global, listing: &[(usize, Fe32)]) -> Result<String, AllocEr
     Ok(line)
 }
 
-// The same of a listing, and `none` for none.
+// Each location of a listing with its value, and `none` for no listing.
 fn shown_listing(
     alloc: Global,
     listing: Option<ShortVec<(usize, Fe32)>>,
@@ -62,7 +62,7 @@ fn shown_listing(
     }
 }
 
-// The same of what an iterator gives.
+// Each location that an iterator gives, with its value.
 fn shown_errors(alloc: Global, errors: ErrorIterator) -> Result<String, AllocError> {
     let mut line = String::new(alloc);
     for error in errors {
@@ -100,7 +100,7 @@ fn listed_in_place<Ck: Checksum>(
     shown_listing(alloc, corrector.listing_with(erasures)?)
 }
 
-// The same where no location above this one is searched, any of them for `-`.
+// What is listed where no location above this one is searched; `-` stands for the highest.
 fn listed_up_to<Ck: Checksum>(
     alloc: Global,
     corrector: &Corrector<Ck>,
@@ -137,7 +137,7 @@ fn listed_without<Ck: Checksum>(
     listed_in_place(alloc, &left, &[])
 }
 
-// Puts what is listed in the ways that leave the corrector as it is behind its bound and window.
+// Appends what is listed in the ways that leave the corrector as it is.
 fn push_unchanged<Ck: Checksum>(
     alloc: Global,
     line: &mut String,
@@ -169,7 +169,7 @@ fn listed_each_way<Ck: Checksum>(
     Ok(line)
 }
 
-// The same by the corrector of an error, where there is one.
+// What the corrector of an error lists in each way, where there is one.
 fn reply_to<Ck: Checksum>(
     alloc: Global,
     found: Option<Corrector<Ck>>,

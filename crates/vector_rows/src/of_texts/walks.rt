@@ -28,7 +28,7 @@ fn accepts<Ck: Checksum>(text: &str) -> Result<bool, UncheckedHrpstringError> {
     }
 }
 
-// The same, with what one walk says before and what the rules say behind it.
+// What one walk says of a text, what the reading says, and what the rules say.
 fn shown<Ck: Checksum>(alloc: Global, text: &str) -> Result<String, AllocError> {
     let walked = by_walk::<Ck>(text);
     let by_rules = word_of(CheckedHrpstring::new::<Ck>(text).is_ok());
