@@ -1,4 +1,5 @@
-//! Tests of `bech32_detect`, `bech32_correction` and `bech32_near`. Values are rows of `vector_rows`.
+//! Tests of `bech32_detect`, `bech32_correction` and `bech32_near`. Values are rows of
+//! `vector_rows`.
 #![tactic(auto)]
 
 #[cfg(test)]
