@@ -8,7 +8,7 @@ use std::alloc::{AllocError, Global};
 use testing_tools::codes::Degree13;
 
 // What a row gives by a checksum.
-fn reply_by<Ck: Checksum>(alloc: Global, words: &[&str]) -> Result<String, AllocError> {
+fn reply_by<Ck: Checksum + Clone>(alloc: Global, words: &[&str]) -> Result<String, AllocError> {
     match word(words, 0) {
         "encoder" => encoders::reply::<Ck>(alloc, words),
         "put" => encoders::put_reply::<Ck>(alloc, words),

@@ -27,8 +27,8 @@ fn encoder_behind<'a, Ck: Checksum>(
     }
 }
 
-// The text of an encoder as elements, as characters and as bytes, in turns.
-fn encoder<Ck: Checksum>(
+// The text of an encoder as elements and as characters, and that of its clone as bytes, in turns.
+fn encoder<Ck: Checksum + Clone>(
     alloc: Global,
     front: Front<'_>,
     fes: &[Fe32],
@@ -36,7 +36,8 @@ fn encoder<Ck: Checksum>(
 ) -> Result<String, AllocError> {
     let elements = turns(alloc, &mut encoder_behind::<Ck>(front, fes).fes(), times)?;
     let characters = turns(alloc, &mut encoder_behind::<Ck>(front, fes).chars(), times)?;
-    let bytes = turns(alloc, &mut encoder_behind::<Ck>(front, fes).bytes(), times)?;
+    let copy = encoder_behind::<Ck>(front, fes).clone()?;
+    let bytes = turns(alloc, &mut copy.bytes(), times)?;
     format!(in alloc; "{elements}|{characters}|{bytes}")
 }
 
@@ -69,7 +70,7 @@ fn checksummed<Ck: Checksum>(
 }
 
 // What all of them give.
-fn all<Ck: Checksum>(
+fn all<Ck: Checksum + Clone>(
     alloc: Global,
     front: Front<'_>,
     fes: &[Fe32],
@@ -83,7 +84,7 @@ fn all<Ck: Checksum>(
 
 /// What a row of a checksum, a human-readable part, a version, elements and a number of turns
 /// gives.
-pub fn reply<Ck: Checksum>(alloc: Global, words: &[&str]) -> Result<String, AllocError> {
+pub fn reply<Ck: Checksum + Clone>(alloc: Global, words: &[&str]) -> Result<String, AllocError> {
     let Ok(hrp) = Hrp::parse(word(words, 2)) else {
         return no_row(alloc);
     };

@@ -52,10 +52,8 @@ fn by_sink(alloc: Global, pieces: &[&str]) -> Result<String, AllocError> {
 
 // The words behind the first.
 fn behind_first<'a>(words: &'a [&'a str]) -> &'a [&'a str] {
-    match words.split_first() {
-        Some((_, others)) => others,
-        None => words,
-    }
+    let start = words.len().min(1);
+    &words[start..]
 }
 
 /// What a row of pieces gives: what a sink gives behind each, and what is read of a value that
