@@ -3,7 +3,7 @@
 use crate::elements::{digits, extended, shown};
 use crate::of_fields::powers;
 use crate::rows::{no_row, word};
-use bech32_gf::field::{Bech32Field, ExtensionField, Field};
+use bech32_gf::field::{Bech32Field, ExtensionField};
 use bech32_gf::gf32::Fe32;
 use std::alloc::{AllocError, Global};
 use testing_tools::code::Code;

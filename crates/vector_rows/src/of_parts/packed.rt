@@ -1,7 +1,5 @@
 //! Packed rows of elements.
 
-ghost use Rattle.std.specs.Prelude.{length, ◌≤◌};
-
 use crate::of_fields::declared::row_shown;
 use crate::rows::{no_row, word};
 use bech32_checksum::{PackedFe32, PackedNull};

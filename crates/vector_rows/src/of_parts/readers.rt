@@ -115,8 +115,8 @@ pub fn shortened_reply<Ck: Checksum>(alloc: Global, words: &[&str]) -> Result<St
     }
 }
 
-/// What a row of a checksum and a text gives: what comes of its checksum, and, where that is by
-/// Bech32m, the data part without it, untested.
+/// What a row of a checksum and a text gives: what comes of its checksum, and the data part without
+/// it, untested.
 pub fn untested_reply<Ck: Checksum>(alloc: Global, words: &[&str]) -> Result<String, AllocError> {
     let Ok(text) = UncheckedHrpstring::new(word(words, 2)) else {
         return no_row(alloc);
