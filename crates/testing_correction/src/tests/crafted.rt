@@ -1,6 +1,6 @@
 //! Residues that no mistyped text need leave.
 
-use super::listed::{Listing, corrector_of, lists};
+use super::listed::{Listing, corrector_of, is_found};
 use crate::tests::compare::same;
 use bech32_checksum::{Bech32, Checksum};
 use bech32_correction::Corrector;
@@ -32,10 +32,18 @@ fn error_of(residue: u32) -> Option<InvalidResidueError> {
     }
 }
 
-// Whether a corrector, where there is one, lists just this, or nothing.
+// Whether just this is listed, or nothing is; not if memory runs out.
+fn lists<Ck: Checksum>(corrector: &Corrector<Ck>, want: Option<Listing>) -> bool {
+    match corrector.bch_errors() {
+        Ok(found) => is_found(found, want),
+        Err(_) => false,
+    }
+}
+
+// Whether a corrector, if there is one, lists just this, or nothing.
 fn is_listed_by<Ck: Checksum>(found: Option<Corrector<Ck>>, want: Option<Listing>) -> bool {
     match found {
-        Some(corrector) => lists(&corrector, want) == Some(true),
+        Some(corrector) => lists(&corrector, want),
         None => false,
     }
 }

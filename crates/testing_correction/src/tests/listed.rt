@@ -38,17 +38,6 @@ pub fn is_found<A: Allocator + Copy>(
     }
 }
 
-/// Whether a corrector lists just this, or nothing; `None` where there is too little memory.
-pub fn lists<Ck: Checksum, A: Allocator + Copy>(
-    corrector: &Corrector<Ck, A>,
-    want: Option<Listing>,
-) -> Option<bool> {
-    match corrector.bch_errors() {
-        Ok(found) => Some(is_found(found, want)),
-        Err(_) => None,
-    }
-}
-
 /// The corrector of an error's residue; the window is the code length where none is given.
 pub fn corrector_of<Ck: Checksum, A: Allocator + Copy>(
     alloc: A,

@@ -1,6 +1,6 @@
 //! Out of memory.
 
-use super::listed::{Listing, corrector_for, lists};
+use super::listed::{Listing, corrector_for, is_found};
 use crate::tests::compare::same;
 use bech32_checksum::{Bech32, Checksum};
 use bech32_correction::Corrector;
@@ -11,7 +11,18 @@ use testing_tools::codes::Degree13;
 use testing_tools::heaps::{InHeap, right_or_wants_memory};
 use testing_tools::known::{FOUR, FOUR_ERRORS};
 
-// Whether a clone lists just this, or nothing; `None` where there is too little memory.
+// Whether just this is listed, or nothing is; `None` if there is too little memory.
+fn lists<Ck: Checksum>(
+    corrector: &Corrector<Ck, &LocalHeap>,
+    want: Option<Listing>,
+) -> Option<bool> {
+    match corrector.bch_errors() {
+        Ok(found) => Some(is_found(found, want)),
+        Err(_) => None,
+    }
+}
+
+// Like `lists`, for a clone.
 fn clone_lists<Ck: Checksum>(
     corrector: &Corrector<Ck, &LocalHeap>,
     want: Option<Listing>,
