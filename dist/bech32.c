@@ -1,6 +1,6 @@
 /*
  * bech32.h in C99: the functions of the proved library, made of its object for WebAssembly (sha256
- * 197f34be263832213426afdb4c756b141cf162519b589fcde4537e2c67c56fca) by portable/translate. Do not edit.
+ * cb6dba21cfc5045a6d53cf9ada8cf25a77bc6616c731ee577d2fe364d50065d4) by translator/translate. Do not edit.
  *
  *     cc -std=c99 -O2 -c bech32.c
  *
@@ -17,8 +17,8 @@
  *     bech32_decode_strict        480
  *     bech32_descriptor_check     48
  *     bech32_descriptor_checksum  32
- *     bech32_descriptor_mend      528
- *     bech32_descriptor_mend_two  480
+ *     bech32_descriptor_mend      560
+ *     bech32_descriptor_mend_two  512
  *     bech32_encode               464
  *     bech32_encode_elements      528
  *     bech32_fault                480
@@ -66,10 +66,10 @@
 #define stack_bech32_descriptor_checksum 32u
 #endif
 #ifndef stack_bech32_descriptor_mend
-#define stack_bech32_descriptor_mend 528u
+#define stack_bech32_descriptor_mend 560u
 #endif
 #ifndef stack_bech32_descriptor_mend_two
-#define stack_bech32_descriptor_mend_two 480u
+#define stack_bech32_descriptor_mend_two 512u
 #endif
 #ifndef stack_bech32_encode
 #define stack_bech32_encode 464u
@@ -2869,7 +2869,7 @@ OWN void put_64(u8 *p, u64 x) {
     p[7] = (u8)(x >> 56 & 255);
 }
 
-/* ---- the instructions that C has no sign for, by the names that portable/translate gives them. A number is held without
+/* ---- the instructions that C has no sign for, by the names that translator/translate gives them. A number is held without
  * a sign; where an instruction reads it with one, that is worked out on numbers without. */
 
 /* In the order of numbers with a sign. */
@@ -3267,24 +3267,24 @@ static void f97(Machine *m, u64 l0, u64 l1, u64 l2, u32 l3, u64 l4, u64 l5, u64 
 static void f98(Machine *m, u64 l0, u64 l1, u64 l2);
 static u32 f99(Machine *m, u64 l0, u64 l1);
 static u32 f100(Machine *m, u64 l0);
-static void f101(Machine *m, u64 l0, u64 l1, u64 l2, u64 l3);
+static void f101(Machine *m, u64 l0, u64 l1, u64 l2, u64 l3, u64 l4, u64 l5);
 static void f102(Machine *m, u64 l0, u64 l1, u64 l2, u64 l3);
-static u32 f103(Machine *m, u64 l0, u64 l1);
-static u32 f104(Machine *m, u64 l0, u64 l1);
-static u32 f105(Machine *m, u64 l0, u64 l1, u64 l2, u64 l3, u64 l4);
-static u64 f106(Machine *m, u64 l0, u64 l1, u64 l2, u64 l3, u32 l4);
-static u32 f107(Machine *m, u64 l0);
-static void f108(Machine *m, u64 l0, u64 l1, u64 l2, u64 l3, u64 l4, u64 l5, u64 l6, u64 l7);
-static void f109(Machine *m, u64 l0, u64 l1, u64 l2, u64 l3, u64 l4);
-static u32 f110(Machine *m, u64 l0);
-static u32 f111(Machine *m, u64 l0);
+static void f103(Machine *m, u64 l0, u64 l1, u64 l2, u64 l3);
+static void f104(Machine *m, u64 l0, u64 l1, u64 l2);
+static u32 f105(Machine *m, u64 l0, u64 l1);
+static void f106(Machine *m, u64 l0, u64 l1, u64 l2, u64 l3, u64 l4, u64 l5);
+static u32 f107(Machine *m, u64 l0, u64 l1, u64 l2, u64 l3, u64 l4);
+static u64 f108(Machine *m, u64 l0, u64 l1, u64 l2, u64 l3, u32 l4);
+static u32 f109(Machine *m, u64 l0);
+static void f110(Machine *m, u64 l0, u64 l1, u64 l2, u64 l3, u64 l4, u64 l5, u64 l6, u64 l7);
+static void f111(Machine *m, u64 l0, u64 l1, u64 l2, u64 l3, u64 l4);
 static u32 f112(Machine *m, u64 l0);
-static u32 f113(Machine *m, u64 l0, u64 l1, u64 l2);
-static void f114(Machine *m, u64 l0, u64 l1, u64 l2, u64 l3, u64 l4);
-static u32 f115(Machine *m, u64 l0);
-static u32 f116(Machine *m, u64 l0, u64 l1);
-static void f117(Machine *m, u64 l0, u64 l1, u64 l2, u64 l3, u64 l4, u64 l5);
-static void f118(Machine *m, u64 l0, u64 l1, u64 l2, u64 l3);
+static u32 f113(Machine *m, u64 l0);
+static u32 f114(Machine *m, u64 l0);
+static u32 f115(Machine *m, u64 l0, u64 l1, u64 l2);
+static void f116(Machine *m, u64 l0, u64 l1, u64 l2, u64 l3, u64 l4);
+static u32 f117(Machine *m, u64 l0);
+static u32 f118(Machine *m, u64 l0, u64 l1);
 static void f119(Machine *m, u64 l0, u64 l1, u32 l2, u64 l3, u64 l4);
 static u32 f120(Machine *m, u64 l0);
 static u32 f121(Machine *m, u64 l0, u64 l1);
@@ -3300,215 +3300,209 @@ static void f130(Machine *m, u64 l0, u64 l1, u64 l2, u64 l3);
 static void f131(Machine *m, u64 l0, u64 l1, u64 l2, u64 l3);
 static void f132(Machine *m, u64 l0);
 static u64 f133(Machine *m, u64 l0, u64 l1);
-static u32 f134(Machine *m, u64 l0);
-static void f135(Machine *m, u64 l0, u64 l1, u64 l2, u64 l3, u64 l4, u64 l5);
+static void f134(Machine *m, u64 l0);
+static u32 f135(Machine *m, u64 l0);
 static u32 f136(Machine *m, u64 l0, u64 l1);
-static u32 f137(Machine *m, u64 l0);
-static u32 f138(Machine *m, u64 l0, u64 l1);
-static u32 f139(Machine *m, u64 l0);
-static void f140(Machine *m, u64 l0, u64 l1);
-static void f141(Machine *m, u64 l0, u64 l1, u64 l2, u32 l3);
-static u64 f142(Machine *m, u64 l0, u64 l1, u64 l2, u64 l3, u64 l4);
-static u32 f143(Machine *m, u64 l0, u64 l1, u64 l2, u64 l3, u64 l4, u64 l5, u64 l6);
-static u32 f144(Machine *m, u64 l0);
+static u32 f137(Machine *m, u64 l0, u64 l1);
+static u32 f138(Machine *m, u64 l0);
+static u32 f139(Machine *m, u64 l0, u64 l1);
+static u32 f140(Machine *m, u64 l0);
+static void f141(Machine *m, u64 l0, u64 l1);
+static void f142(Machine *m, u64 l0, u64 l1, u64 l2, u32 l3);
+static u64 f143(Machine *m, u64 l0, u64 l1, u64 l2, u64 l3, u64 l4);
+static u32 f144(Machine *m, u64 l0, u64 l1, u64 l2, u64 l3, u64 l4, u64 l5, u64 l6);
 static u32 f145(Machine *m, u64 l0);
 static u32 f146(Machine *m, u64 l0, u64 l1, u64 l2, u64 l3);
 static u32 f147(Machine *m, u64 l0, u64 l1, u32 l2, u64 l3, u64 l4);
-static void f148(Machine *m, u64 l0);
-static u32 f149(Machine *m, u64 l0, u64 l1);
-static void f150(Machine *m, u64 l0, u64 l1, u64 l2, u32 l3);
-static u32 f151(Machine *m, u64 l0, u64 l1, u64 l2, u64 l3);
-static u32 f152(Machine *m, u64 l0, u32 l1, u64 l2, u64 l3, u32 l4, u64 l5);
-static void f153(Machine *m, u64 l0, u64 l1, u64 l2, u64 l3, u64 l4, u32 l5, u64 l6, u64 l7);
-static u32 f154(Machine *m, u64 l0, u64 l1);
-static u32 f155(Machine *m, u64 l0, u64 l1);
-static u32 f156(Machine *m, u64 l0, u64 l1);
-static u32 f157(Machine *m, u64 l0);
-static void f158(Machine *m, u64 l0);
-static void f159(Machine *m, u64 l0);
-static u32 f160(Machine *m, u64 l0);
-static void f161(Machine *m, u64 l0, u64 l1, u64 l2, u64 l3, u64 l4, u64 l5);
-static void f162(Machine *m, u64 l0, u64 l1, u64 l2, u64 l3);
-static void f163(Machine *m, u64 l0, u64 l1, u64 l2, u64 l3, u64 l4);
-static void f164(Machine *m, u64 l0, u64 l1, u64 l2, u64 l3, u64 l4, u64 l5, u64 l6, u64 l7);
-static u32 f165(Machine *m, u64 l0);
-static u32 f166(Machine *m, u64 l0, u64 l1);
-static void f167(Machine *m, u64 l0, u64 l1, u64 l2, u64 l3, u64 l4, u64 l5);
-static void f168(Machine *m, u64 l0, u64 l1, u64 l2, u64 l3, u64 l4, u64 l5);
-static void f169(Machine *m, u64 l0, u64 l1, u32 l2, u64 l3, u64 l4, u64 l5, u64 l6);
-static void f170(Machine *m, u64 l0, u64 l1, u64 l2, u64 l3, u64 l4);
-static void f171(Machine *m, u64 l0, u64 l1, u32 l2, u64 l3, u64 l4);
-static void f172(Machine *m, u64 l0, u64 l1);
-static u32 f173(Machine *m, u64 l0);
-static u32 f174(Machine *m, u64 l0, u64 l1);
-static u32 f175(Machine *m, u64 l0);
-static u32 f176(Machine *m, u64 l0, u64 l1, u64 l2, u64 l3);
-static u32 f177(Machine *m, u64 l0, u64 l1);
-static u32 f178(Machine *m, u64 l0);
-static void f179(Machine *m, u64 l0, u64 l1, u64 l2, u64 l3);
-static u32 f180(Machine *m, u64 l0, u64 l1, u64 l2, u64 l3, u64 l4, u64 l5, u64 l6);
-static u32 f181(Machine *m, u64 l0);
+static void f148(Machine *m, u64 l0, u64 l1, u64 l2, u32 l3);
+static u32 f149(Machine *m, u64 l0, u64 l1, u64 l2, u64 l3);
+static u32 f150(Machine *m, u64 l0, u32 l1, u64 l2, u64 l3, u32 l4, u64 l5);
+static void f151(Machine *m, u64 l0, u64 l1, u64 l2, u64 l3, u64 l4, u32 l5, u64 l6, u64 l7);
+static u32 f152(Machine *m, u64 l0, u64 l1);
+static u32 f153(Machine *m, u64 l0);
+static void f154(Machine *m, u64 l0);
+static void f155(Machine *m, u64 l0);
+static u32 f156(Machine *m, u64 l0);
+static void f157(Machine *m, u64 l0, u64 l1, u64 l2, u64 l3, u64 l4, u64 l5);
+static void f158(Machine *m, u64 l0, u64 l1, u64 l2, u64 l3);
+static void f159(Machine *m, u64 l0, u64 l1, u64 l2, u64 l3, u64 l4);
+static void f160(Machine *m, u64 l0, u64 l1, u64 l2, u64 l3, u64 l4, u64 l5, u64 l6, u64 l7);
+static u32 f161(Machine *m, u64 l0);
+static u32 f162(Machine *m, u64 l0, u64 l1);
+static void f163(Machine *m, u64 l0, u64 l1, u64 l2, u64 l3, u64 l4, u64 l5);
+static void f164(Machine *m, u64 l0, u64 l1, u64 l2, u64 l3, u64 l4, u64 l5);
+static void f165(Machine *m, u64 l0, u64 l1, u32 l2, u64 l3, u64 l4, u64 l5, u64 l6);
+static void f166(Machine *m, u64 l0, u64 l1, u64 l2, u64 l3, u64 l4);
+static void f167(Machine *m, u64 l0, u64 l1, u32 l2, u64 l3, u64 l4);
+static void f168(Machine *m, u64 l0, u64 l1);
+static u32 f169(Machine *m, u64 l0);
+static u32 f170(Machine *m, u64 l0, u64 l1);
+static u32 f171(Machine *m, u64 l0);
+static u32 f172(Machine *m, u64 l0, u64 l1, u64 l2, u64 l3);
+static u32 f173(Machine *m, u64 l0, u64 l1);
+static u32 f174(Machine *m, u64 l0);
+static void f175(Machine *m, u64 l0, u64 l1, u64 l2, u64 l3);
+static u32 f176(Machine *m, u64 l0, u64 l1, u64 l2, u64 l3, u64 l4, u64 l5, u64 l6);
+static u32 f177(Machine *m, u64 l0, u64 l1, u64 l2, u64 l3);
+static void f178(Machine *m, u64 l0, u64 l1, u64 l2, u32 l3);
+static u32 f179(Machine *m, u64 l0, u32 l1, u64 l2, u64 l3, u32 l4, u64 l5);
+static void f180(Machine *m, u64 l0, u64 l1, u64 l2, u64 l3, u64 l4);
+static void f181(Machine *m, u64 l0, u64 l1);
 static u32 f182(Machine *m, u64 l0, u64 l1, u64 l2, u64 l3);
-static void f183(Machine *m, u64 l0, u64 l1, u64 l2, u32 l3);
-static u32 f184(Machine *m, u64 l0, u32 l1, u64 l2, u64 l3, u32 l4, u64 l5);
-static void f185(Machine *m, u64 l0, u64 l1, u64 l2, u64 l3, u64 l4);
-static void f186(Machine *m, u64 l0, u64 l1);
-static u32 f187(Machine *m, u64 l0, u64 l1, u64 l2, u64 l3);
-static u32 f188(Machine *m, u64 l0, u64 l1, u64 l2, u64 l3, u64 l4, u64 l5, u64 l6);
-static u32 f189(Machine *m, u64 l0, u64 l1, u64 l2, u64 l3);
-static void f190(Machine *m, u64 l0, u64 l1, u64 l2, u32 l3);
-static u32 f191(Machine *m, u64 l0, u32 l1, u64 l2, u64 l3, u32 l4, u64 l5);
-static u32 f192(Machine *m, u64 l0);
-static u32 f193(Machine *m, u64 l0, u64 l1);
-static void f194(Machine *m, u64 l0, u64 l1, u64 l2, u64 l3, u64 l4, u64 l5);
-static u32 f195(Machine *m, u64 l0);
-static u32 f196(Machine *m, u64 l0, u64 l1);
+static u32 f183(Machine *m, u64 l0, u64 l1, u64 l2, u64 l3, u64 l4, u64 l5, u64 l6);
+static u32 f184(Machine *m, u64 l0, u64 l1, u64 l2, u64 l3);
+static void f185(Machine *m, u64 l0, u64 l1, u64 l2, u32 l3);
+static u32 f186(Machine *m, u64 l0, u32 l1, u64 l2, u64 l3, u32 l4, u64 l5);
+static u32 f187(Machine *m, u64 l0);
+static u32 f188(Machine *m, u64 l0, u64 l1);
+static void f189(Machine *m, u64 l0, u64 l1, u64 l2, u64 l3, u64 l4, u64 l5);
+static u32 f190(Machine *m, u64 l0);
+static u32 f191(Machine *m, u64 l0, u64 l1);
+static void f192(Machine *m, u64 l0, u64 l1, u64 l2, u64 l3, u64 l4, u64 l5);
+static void f193(Machine *m, u64 l0);
+static u32 f194(Machine *m, u64 l0);
+static void f195(Machine *m, u64 l0, u64 l1, u64 l2, u64 l3);
+static void f196(Machine *m, u64 l0, u64 l1, u64 l2, u64 l3, u64 l4);
 static void f197(Machine *m, u64 l0, u64 l1, u64 l2, u64 l3, u64 l4, u64 l5);
-static void f198(Machine *m, u64 l0);
-static u32 f199(Machine *m, u64 l0);
-static void f200(Machine *m, u64 l0, u64 l1, u64 l2, u64 l3);
-static void f201(Machine *m, u64 l0, u64 l1, u64 l2, u64 l3, u64 l4);
-static void f202(Machine *m, u64 l0, u64 l1, u64 l2, u64 l3, u64 l4, u64 l5);
-static u32 f203(Machine *m, u64 l0, u64 l1, u32 l2);
-static u32 f204(Machine *m, u64 l0, u64 l1);
-static void f205(Machine *m, u64 l0, u64 l1, u64 l2, u64 l3, u64 l4, u64 l5);
+static u32 f198(Machine *m, u64 l0, u64 l1, u32 l2);
+static u32 f199(Machine *m, u64 l0, u64 l1);
+static void f200(Machine *m, u64 l0, u64 l1, u64 l2, u64 l3, u64 l4, u64 l5);
+static void f201(Machine *m, u64 l0);
+static void f202(Machine *m, u64 l0, u64 l1, u64 l2, u64 l3, u64 l4, u64 l5, u64 l6);
+static void f203(Machine *m, u64 l0, u64 l1, u64 l2, u64 l3, u64 l4, u64 l5);
+static void f204(Machine *m, u64 l0, u64 l1, u64 l2, u64 l3);
+static void f205(Machine *m, u64 l0, u64 l1, u64 l2, u64 l3);
 static void f206(Machine *m, u64 l0);
-static void f207(Machine *m, u64 l0, u64 l1, u64 l2, u64 l3, u64 l4, u64 l5, u64 l6);
-static void f208(Machine *m, u64 l0, u64 l1, u64 l2, u64 l3, u64 l4, u64 l5);
-static void f209(Machine *m, u64 l0, u64 l1, u64 l2, u64 l3);
-static void f210(Machine *m, u64 l0, u64 l1, u64 l2, u64 l3);
-static void f211(Machine *m, u64 l0);
-static void f212(Machine *m, u64 l0, u64 l1, u64 l2, u64 l3, u64 l4, u64 l5);
-static void f213(Machine *m, u64 l0, u64 l1, u64 l2, u64 l3, u64 l4, u64 l5);
-static u32 f214(Machine *m, u64 l0, u64 l1, u32 l2, u64 l3, u64 l4);
-static void f215(Machine *m, u64 l0);
+static void f207(Machine *m, u64 l0);
+static u32 f208(Machine *m, u64 l0, u64 l1);
+static void f209(Machine *m, u64 l0, u64 l1, u64 l2, u64 l3, u64 l4, u64 l5);
+static void f210(Machine *m, u64 l0, u64 l1, u64 l2, u64 l3, u64 l4, u64 l5);
+static u32 f211(Machine *m, u64 l0, u64 l1, u32 l2, u64 l3, u64 l4);
+static void f212(Machine *m, u64 l0, u64 l1, u64 l2, u32 l3);
+static u32 f213(Machine *m, u64 l0, u64 l1, u64 l2, u64 l3, u32 l4, u64 l5);
+static void f214(Machine *m, u64 l0, u64 l1, u64 l2, u64 l3, u64 l4, u32 l5, u64 l6, u64 l7);
+static u32 f215(Machine *m, u64 l0, u64 l1, u64 l2, u64 l3, u64 l4);
 static u32 f216(Machine *m, u64 l0, u64 l1);
-static void f217(Machine *m, u64 l0, u64 l1, u64 l2, u32 l3);
-static u32 f218(Machine *m, u64 l0, u64 l1, u64 l2, u64 l3, u32 l4, u64 l5);
-static void f219(Machine *m, u64 l0, u64 l1, u64 l2, u64 l3, u64 l4, u32 l5, u64 l6, u64 l7);
-static u32 f220(Machine *m, u64 l0, u64 l1, u64 l2, u64 l3, u64 l4);
-static u32 f221(Machine *m, u64 l0, u64 l1);
-static u32 f222(Machine *m, u64 l0);
-static void f223(Machine *m, u64 l0);
-static void f224(Machine *m, u64 l0);
-static void f225(Machine *m, u64 l0, u64 l1, u64 l2, u64 l3, u64 l4, u64 l5);
-static void f226(Machine *m, u64 l0, u64 l1, u64 l2, u64 l3, u64 l4, u64 l5);
-static u32 f227(Machine *m, u64 l0, u64 l1, u32 l2, u64 l3, u64 l4);
-static void f228(Machine *m, u64 l0, u64 l1, u64 l2, u32 l3);
-static u32 f229(Machine *m, u64 l0);
-static u32 f230(Machine *m, u64 l0, u64 l1, u32 l2, u64 l3, u64 l4);
-static void f231(Machine *m, u64 l0, u64 l1, u64 l2, u32 l3, u64 l4);
-static u32 f232(Machine *m, u64 l0, u64 l1, u64 l2, u64 l3, u64 l4);
-static void f233(Machine *m, u64 l0, u64 l1, u64 l2, u64 l3, u64 l4);
-static void f234(Machine *m, u64 l0, u64 l1, u32 l2, u64 l3, u64 l4);
-static void f235(Machine *m, u64 l0, u64 l1);
-static u32 f236(Machine *m, u64 l0);
-static u32 f237(Machine *m, u64 l0);
-static u32 f238(Machine *m, u64 l0);
-static void f239(Machine *m, u64 l0, u64 l1, u64 l2, u64 l3);
-static u32 f240(Machine *m, u64 l0, u64 l1, u64 l2, u64 l3, u64 l4, u64 l5, u64 l6);
-static u32 f241(Machine *m, u64 l0);
-static u32 f242(Machine *m, u64 l0, u64 l1, u64 l2, u64 l3);
+static u32 f217(Machine *m, u64 l0);
+static void f218(Machine *m, u64 l0);
+static void f219(Machine *m, u64 l0);
+static void f220(Machine *m, u64 l0, u64 l1, u64 l2, u64 l3, u64 l4, u64 l5);
+static void f221(Machine *m, u64 l0, u64 l1, u64 l2, u64 l3, u64 l4, u64 l5);
+static u32 f222(Machine *m, u64 l0, u64 l1, u32 l2, u64 l3, u64 l4);
+static void f223(Machine *m, u64 l0, u64 l1, u64 l2, u32 l3);
+static u32 f224(Machine *m, u64 l0);
+static u32 f225(Machine *m, u64 l0, u64 l1, u32 l2, u64 l3, u64 l4);
+static void f226(Machine *m, u64 l0, u64 l1, u64 l2, u32 l3, u64 l4);
+static u32 f227(Machine *m, u64 l0, u64 l1, u64 l2, u64 l3, u64 l4);
+static void f228(Machine *m, u64 l0, u64 l1, u64 l2, u64 l3, u64 l4);
+static void f229(Machine *m, u64 l0, u64 l1, u32 l2, u64 l3, u64 l4);
+static void f230(Machine *m, u64 l0, u64 l1);
+static u32 f231(Machine *m, u64 l0);
+static u32 f232(Machine *m, u64 l0);
+static u32 f233(Machine *m, u64 l0);
+static void f234(Machine *m, u64 l0, u64 l1, u64 l2, u64 l3);
+static u32 f235(Machine *m, u64 l0, u64 l1, u64 l2, u64 l3, u64 l4, u64 l5, u64 l6);
+static u32 f236(Machine *m, u64 l0, u64 l1, u64 l2, u64 l3);
+static u32 f237(Machine *m, u64 l0, u64 l1, u64 l2, u64 l3);
+static void f238(Machine *m, u64 l0, u64 l1, u64 l2, u32 l3);
+static u32 f239(Machine *m, u64 l0, u32 l1, u64 l2, u64 l3, u32 l4, u64 l5);
+static void f240(Machine *m, u64 l0, u64 l1, u64 l2, u64 l3, u64 l4);
+static void f241(Machine *m, u64 l0, u64 l1);
+static u32 f242(Machine *m, u64 l0, u64 l1, u64 l2, u64 l3, u64 l4, u64 l5, u64 l6);
 static u32 f243(Machine *m, u64 l0, u64 l1, u64 l2, u64 l3);
-static void f244(Machine *m, u64 l0, u64 l1, u64 l2, u32 l3);
-static u32 f245(Machine *m, u64 l0, u32 l1, u64 l2, u64 l3, u32 l4, u64 l5);
-static void f246(Machine *m, u64 l0, u64 l1, u64 l2, u64 l3, u64 l4);
-static void f247(Machine *m, u64 l0, u64 l1);
-static u32 f248(Machine *m, u64 l0, u64 l1, u64 l2, u64 l3, u64 l4, u64 l5, u64 l6);
-static u32 f249(Machine *m, u64 l0, u64 l1, u64 l2, u64 l3);
-static u32 f250(Machine *m, u64 l0, u64 l1, u64 l2, u64 l3);
-static void f251(Machine *m, u64 l0, u64 l1, u64 l2, u32 l3);
-static u32 f252(Machine *m, u64 l0, u32 l1, u64 l2, u64 l3, u32 l4, u64 l5);
-static u32 f253(Machine *m, u64 l0);
-static u32 f254(Machine *m, u64 l0, u64 l1);
-static u32 f255(Machine *m, u64 l0);
-static u32 f256(Machine *m, u64 l0, u64 l1);
-static void f257(Machine *m, u64 l0);
-static u32 f258(Machine *m, u64 l0);
-static void f259(Machine *m, u64 l0, u64 l1, u64 l2, u64 l3);
-static void f260(Machine *m, u64 l0, u64 l1, u64 l2, u64 l3, u64 l4);
-static void f261(Machine *m, u64 l0, u64 l1, u64 l2, u64 l3, u64 l4, u64 l5);
-static u32 f262(Machine *m, u64 l0, u64 l1, u32 l2);
-static u32 f263(Machine *m, u64 l0, u64 l1);
+static u32 f244(Machine *m, u64 l0, u64 l1, u64 l2, u64 l3);
+static void f245(Machine *m, u64 l0, u64 l1, u64 l2, u32 l3);
+static u32 f246(Machine *m, u64 l0, u32 l1, u64 l2, u64 l3, u32 l4, u64 l5);
+static u32 f247(Machine *m, u64 l0);
+static u32 f248(Machine *m, u64 l0, u64 l1);
+static u32 f249(Machine *m, u64 l0);
+static u32 f250(Machine *m, u64 l0, u64 l1);
+static void f251(Machine *m, u64 l0);
+static u32 f252(Machine *m, u64 l0);
+static void f253(Machine *m, u64 l0, u64 l1, u64 l2, u64 l3);
+static void f254(Machine *m, u64 l0, u64 l1, u64 l2, u64 l3, u64 l4);
+static void f255(Machine *m, u64 l0, u64 l1, u64 l2, u64 l3, u64 l4, u64 l5);
+static u32 f256(Machine *m, u64 l0, u64 l1, u32 l2);
+static u32 f257(Machine *m, u64 l0, u64 l1);
+static void f258(Machine *m, u64 l0);
+static void f259(Machine *m, u64 l0, u64 l1, u64 l2, u64 l3, u64 l4, u64 l5, u64 l6);
+static void f260(Machine *m, u64 l0, u64 l1, u64 l2, u64 l3, u64 l4, u64 l5);
+static void f261(Machine *m, u64 l0, u64 l1, u64 l2, u64 l3);
+static void f262(Machine *m, u64 l0, u64 l1, u64 l2, u64 l3);
+static void f263(Machine *m, u64 l0);
 static void f264(Machine *m, u64 l0);
-static void f265(Machine *m, u64 l0, u64 l1, u64 l2, u64 l3, u64 l4, u64 l5, u64 l6);
-static void f266(Machine *m, u64 l0, u64 l1, u64 l2, u64 l3, u64 l4, u64 l5);
-static void f267(Machine *m, u64 l0, u64 l1, u64 l2, u64 l3);
-static void f268(Machine *m, u64 l0, u64 l1, u64 l2, u64 l3);
-static void f269(Machine *m, u64 l0);
-static u32 f270(Machine *m, u64 l0, u64 l1, u32 l2, u64 l3, u64 l4);
+static u32 f265(Machine *m, u64 l0, u64 l1);
+static u32 f266(Machine *m, u64 l0, u64 l1, u32 l2, u64 l3, u64 l4);
+static u32 f267(Machine *m, u64 l0, u64 l1, u64 l2, u64 l3, u32 l4, u64 l5);
+static void f268(Machine *m, u64 l0, u64 l1, u64 l2, u64 l3, u64 l4, u32 l5, u64 l6, u64 l7);
+static u32 f269(Machine *m, u64 l0, u64 l1, u64 l2, u64 l3, u64 l4);
+static u32 f270(Machine *m, u64 l0);
 static void f271(Machine *m, u64 l0);
-static u32 f272(Machine *m, u64 l0, u64 l1);
-static u32 f273(Machine *m, u64 l0, u64 l1, u64 l2, u64 l3, u32 l4, u64 l5);
-static void f274(Machine *m, u64 l0, u64 l1, u64 l2, u64 l3, u64 l4, u32 l5, u64 l6, u64 l7);
-static u32 f275(Machine *m, u64 l0, u64 l1, u64 l2, u64 l3, u64 l4);
-static u32 f276(Machine *m, u64 l0);
-static void f277(Machine *m, u64 l0);
-static void f278(Machine *m, u64 l0);
-static void f279(Machine *m, u64 l0, u64 l1, u64 l2, u64 l3, u64 l4, u64 l5);
-static u32 f280(Machine *m, u64 l0, u64 l1, u32 l2, u64 l3, u64 l4);
-static u32 f281(Machine *m, u64 l0, u64 l1, u64 l2);
-static void f282(Machine *m, u64 l0, u64 l1, u64 l2);
-static u32 f283(Machine *m, u64 l0);
-static u32 f284(Machine *m, u64 l0);
-static void f285(Machine *m, u64 l0, u64 l1, u64 l2, u64 l3, u64 l4);
-static void f286(Machine *m, u64 l0, u64 l1, u64 l2, u64 l3, u64 l4, u64 l5, u64 l6, u64 l7);
-static u32 f287(Machine *m, u64 l0);
-static u32 f288(Machine *m, u64 l0, u64 l1);
+static void f272(Machine *m, u64 l0);
+static void f273(Machine *m, u64 l0, u64 l1, u64 l2, u64 l3, u64 l4, u64 l5);
+static u32 f274(Machine *m, u64 l0, u64 l1, u32 l2, u64 l3, u64 l4);
+static u32 f275(Machine *m, u64 l0, u64 l1, u64 l2);
+static void f276(Machine *m, u64 l0, u64 l1, u64 l2);
+static u32 f277(Machine *m, u64 l0);
+static u32 f278(Machine *m, u64 l0);
+static void f279(Machine *m, u64 l0, u64 l1, u64 l2, u64 l3, u64 l4);
+static void f280(Machine *m, u64 l0, u64 l1, u64 l2, u64 l3, u64 l4, u64 l5, u64 l6, u64 l7);
+static u32 f281(Machine *m, u64 l0);
+static u32 f282(Machine *m, u64 l0, u64 l1);
 static u32 of_bech32_check(Machine *m, u32 l0, u64 l1, u64 l2, u64 l3, u64 l4);
-static u32 f290(Machine *m, u32 l0, u64 l1, u64 l2, u64 l3, u64 l4);
+static u32 f284(Machine *m, u32 l0, u64 l1, u64 l2, u64 l3, u64 l4);
 static u32 of_bech32_check_many(Machine *m, u32 l0, u64 l1, u64 l2, u64 l3, u64 l4);
-static u32 f292(Machine *m, u32 l0, u64 l1, u64 l2, u64 l3, u64 l4);
+static u32 f286(Machine *m, u32 l0, u64 l1, u64 l2, u64 l3, u64 l4);
 static u32 of_bech32_correct(Machine *m, u32 l0, u64 l1, u64 l2, u64 l3, u64 l4, u64 l5, u64 l6, u64 l7, u64 l8, u64 l9, u64 l10, u64 l11, u64 l12);
-static u32 f294(Machine *m, u32 l0, u64 l1, u64 l2, u64 l3, u64 l4, u64 l5, u64 l6, u64 l7, u64 l8, u64 l9, u64 l10, u64 l11, u64 l12);
+static u32 f288(Machine *m, u32 l0, u64 l1, u64 l2, u64 l3, u64 l4, u64 l5, u64 l6, u64 l7, u64 l8, u64 l9, u64 l10, u64 l11, u64 l12);
 static u32 of_bech32_decode(Machine *m, u64 l0, u64 l1, u64 l2, u64 l3, u64 l4, u64 l5, u64 l6, u64 l7);
-static u32 f296(Machine *m, u64 l0, u64 l1, u64 l2, u64 l3, u64 l4, u64 l5, u64 l6, u64 l7);
+static u32 f290(Machine *m, u64 l0, u64 l1, u64 l2, u64 l3, u64 l4, u64 l5, u64 l6, u64 l7);
 static u32 of_bech32_decode_elements(Machine *m, u32 l0, u64 l1, u64 l2, u64 l3, u64 l4, u64 l5, u64 l6, u64 l7, u64 l8);
-static u32 f298(Machine *m, u32 l0, u64 l1, u64 l2, u64 l3, u64 l4, u64 l5, u64 l6, u64 l7, u64 l8);
+static u32 f292(Machine *m, u32 l0, u64 l1, u64 l2, u64 l3, u64 l4, u64 l5, u64 l6, u64 l7, u64 l8);
 static u32 of_bech32_decode_strict(Machine *m, u32 l0, u64 l1, u64 l2, u64 l3, u64 l4, u64 l5, u64 l6, u64 l7, u64 l8);
-static u32 f300(Machine *m, u32 l0, u64 l1, u64 l2, u64 l3, u64 l4, u64 l5, u64 l6, u64 l7, u64 l8);
+static u32 f294(Machine *m, u32 l0, u64 l1, u64 l2, u64 l3, u64 l4, u64 l5, u64 l6, u64 l7, u64 l8);
 static u32 of_bech32_descriptor_check(Machine *m, u64 l0, u64 l1, u64 l2);
-static u32 f302(Machine *m, u64 l0, u64 l1, u64 l2);
+static u32 f296(Machine *m, u64 l0, u64 l1, u64 l2);
 static u32 of_bech32_descriptor_checksum(Machine *m, u64 l0, u64 l1, u64 l2, u64 l3, u64 l4, u64 l5);
-static u32 f304(Machine *m, u64 l0, u64 l1, u64 l2, u64 l3, u64 l4, u64 l5);
+static u32 f298(Machine *m, u64 l0, u64 l1, u64 l2, u64 l3, u64 l4, u64 l5);
 static u32 of_bech32_encode(Machine *m, u32 l0, u64 l1, u64 l2, u64 l3, u64 l4, u64 l5, u64 l6, u64 l7);
-static u32 f306(Machine *m, u32 l0, u64 l1, u64 l2, u64 l3, u64 l4, u64 l5, u64 l6, u64 l7);
+static u32 f300(Machine *m, u32 l0, u64 l1, u64 l2, u64 l3, u64 l4, u64 l5, u64 l6, u64 l7);
 static u32 of_bech32_encode_elements(Machine *m, u32 l0, u64 l1, u64 l2, u64 l3, u64 l4, u64 l5, u64 l6, u64 l7, u64 l8);
-static u32 f308(Machine *m, u32 l0, u64 l1, u64 l2, u64 l3, u64 l4, u64 l5, u64 l6, u64 l7, u64 l8);
+static u32 f302(Machine *m, u32 l0, u64 l1, u64 l2, u64 l3, u64 l4, u64 l5, u64 l6, u64 l7, u64 l8);
 static u32 of_bech32_fault(Machine *m, u32 l0, u64 l1, u64 l2, u64 l3);
-static u32 f310(Machine *m, u32 l0, u64 l1, u64 l2, u64 l3);
+static u32 f304(Machine *m, u32 l0, u64 l1, u64 l2, u64 l3);
 static u32 of_bech32_liquid_decode(Machine *m, u64 l0, u64 l1, u64 l2, u64 l3, u64 l4, u64 l5, u64 l6, u64 l7, u64 l8, u64 l9);
-static u32 f312(Machine *m, u64 l0, u64 l1, u64 l2, u64 l3, u64 l4, u64 l5, u64 l6, u64 l7, u64 l8, u64 l9);
+static u32 f306(Machine *m, u64 l0, u64 l1, u64 l2, u64 l3, u64 l4, u64 l5, u64 l6, u64 l7, u64 l8, u64 l9);
 static u32 of_bech32_liquid_encode(Machine *m, u64 l0, u64 l1, u32 l2, u64 l3, u64 l4, u64 l5, u64 l6, u64 l7, u64 l8);
-static u32 f314(Machine *m, u64 l0, u64 l1, u32 l2, u64 l3, u64 l4, u64 l5, u64 l6, u64 l7, u64 l8);
+static u32 f308(Machine *m, u64 l0, u64 l1, u32 l2, u64 l3, u64 l4, u64 l5, u64 l6, u64 l7, u64 l8);
 static u32 of_bech32_message(Machine *m, u32 l0, u64 l1, u64 l2, u64 l3);
-static u32 f316(Machine *m, u32 l0, u64 l1, u64 l2, u64 l3);
+static u32 f310(Machine *m, u32 l0, u64 l1, u64 l2, u64 l3);
 static u32 of_bech32_residue(Machine *m, u32 l0, u64 l1, u64 l2, u64 l3);
-static u32 f318(Machine *m, u32 l0, u64 l1, u64 l2, u64 l3);
+static u32 f312(Machine *m, u32 l0, u64 l1, u64 l2, u64 l3);
 static u32 of_bech32_segwit_decode(Machine *m, u64 l0, u64 l1, u64 l2, u64 l3, u64 l4, u64 l5, u64 l6, u64 l7, u64 l8);
-static u32 f320(Machine *m, u64 l0, u64 l1, u64 l2, u64 l3, u64 l4, u64 l5, u64 l6, u64 l7, u64 l8);
+static u32 f314(Machine *m, u64 l0, u64 l1, u64 l2, u64 l3, u64 l4, u64 l5, u64 l6, u64 l7, u64 l8);
 static u32 of_bech32_segwit_encode(Machine *m, u64 l0, u64 l1, u32 l2, u64 l3, u64 l4, u64 l5, u64 l6, u64 l7);
-static u32 f322(Machine *m, u64 l0, u64 l1, u32 l2, u64 l3, u64 l4, u64 l5, u64 l6, u64 l7);
+static u32 f316(Machine *m, u64 l0, u64 l1, u32 l2, u64 l3, u64 l4, u64 l5, u64 l6, u64 l7);
 static u32 of_bech32_validity_of(Machine *m, u64 l0, u64 l1, u64 l2, u64 l3, u64 l4);
-static u32 f324(Machine *m, u64 l0, u64 l1, u64 l2, u64 l3, u64 l4);
+static u32 f318(Machine *m, u64 l0, u64 l1, u64 l2, u64 l3, u64 l4);
 static u32 of_bech32_version(Machine *m);
-static void f326(Machine *m);
+static void f320(Machine *m);
 static u32 of_bech32_descriptor_mend(Machine *m, u64 l0, u64 l1, u64 l2, u64 l3, u64 l4, u64 l5, u64 l6, u64 l7, u64 l8, u64 l9, u64 l10);
-static u32 f328(Machine *m, u64 l0, u64 l1, u64 l2, u64 l3, u64 l4, u64 l5, u64 l6, u64 l7, u64 l8, u64 l9, u64 l10);
+static u32 f322(Machine *m, u64 l0, u64 l1, u64 l2, u64 l3, u64 l4, u64 l5, u64 l6, u64 l7, u64 l8, u64 l9, u64 l10);
 static u32 of_bech32_descriptor_mend_two(Machine *m, u64 l0, u64 l1, u64 l2, u64 l3, u64 l4, u64 l5, u64 l6, u64 l7);
-static u32 f330(Machine *m, u64 l0, u64 l1, u64 l2, u64 l3, u64 l4, u64 l5, u64 l6, u64 l7);
+static u32 f324(Machine *m, u64 l0, u64 l1, u64 l2, u64 l3, u64 l4, u64 l5, u64 l6, u64 l7);
 static u32 of_bech32_liquid_nearest(Machine *m, u64 l0, u64 l1, u64 l2, u64 l3, u64 l4, u64 l5, u64 l6, u64 l7, u64 l8);
-static u32 f332(Machine *m, u64 l0, u64 l1, u64 l2, u64 l3, u64 l4, u64 l5, u64 l6, u64 l7, u64 l8);
+static u32 f326(Machine *m, u64 l0, u64 l1, u64 l2, u64 l3, u64 l4, u64 l5, u64 l6, u64 l7, u64 l8);
 static u32 of_bech32_near_edits(Machine *m, u32 l0, u64 l1, u64 l2, u64 l3, u64 l4, u64 l5, u64 l6, u64 l7, u64 l8, u64 l9, u64 l10);
-static u32 f334(Machine *m, u32 l0, u64 l1, u64 l2, u64 l3, u64 l4, u64 l5, u64 l6, u64 l7, u64 l8, u64 l9, u64 l10);
+static u32 f328(Machine *m, u32 l0, u64 l1, u64 l2, u64 l3, u64 l4, u64 l5, u64 l6, u64 l7, u64 l8, u64 l9, u64 l10);
 static u32 of_bech32_nearest(Machine *m, u32 l0, u64 l1, u64 l2, u64 l3, u64 l4, u64 l5, u64 l6, u64 l7, u64 l8, u64 l9);
-static u32 f336(Machine *m, u32 l0, u64 l1, u64 l2, u64 l3, u64 l4, u64 l5, u64 l6, u64 l7, u64 l8, u64 l9);
+static u32 f330(Machine *m, u32 l0, u64 l1, u64 l2, u64 l3, u64 l4, u64 l5, u64 l6, u64 l7, u64 l8, u64 l9);
 static u32 of_bech32_suggest(Machine *m, u64 l0, u64 l1, u64 l2, u64 l3, u64 l4, u64 l5, u64 l6, u64 l7, u64 l8, u64 l9, u64 l10, u64 l11);
-static u32 f338(Machine *m, u64 l0, u64 l1, u64 l2, u64 l3, u64 l4, u64 l5, u64 l6, u64 l7, u64 l8, u64 l9, u64 l10, u64 l11);
+static u32 f332(Machine *m, u64 l0, u64 l1, u64 l2, u64 l3, u64 l4, u64 l5, u64 l6, u64 l7, u64 l8, u64 l9, u64 l10, u64 l11);
 static u32 of_bech32_segwit_decode_many(Machine *m, u64 l0, u64 l1, u64 l2, u64 l3, u64 l4, u64 l5, u64 l6, u64 l7, u64 l8, u64 l9, u64 l10, u64 l11, u64 l12, u64 l13, u64 l14);
-static u32 f340(Machine *m, u64 l0, u64 l1, u64 l2, u64 l3, u64 l4, u64 l5, u64 l6, u64 l7, u64 l8, u64 l9, u64 l10, u64 l11, u64 l12, u64 l13, u64 l14);
+static u32 f334(Machine *m, u64 l0, u64 l1, u64 l2, u64 l3, u64 l4, u64 l5, u64 l6, u64 l7, u64 l8, u64 l9, u64 l10, u64 l11, u64 l12, u64 l13, u64 l14);
 static u32 of_bech32_segwit_encode_many(Machine *m, u64 l0, u64 l1, u64 l2, u64 l3, u64 l4, u64 l5, u64 l6, u64 l7, u64 l8, u64 l9, u64 l10, u64 l11, u64 l12);
-static u32 f342(Machine *m, u64 l0, u64 l1, u64 l2, u64 l3, u64 l4, u64 l5, u64 l6, u64 l7, u64 l8, u64 l9, u64 l10, u64 l11, u64 l12);
+static u32 f336(Machine *m, u64 l0, u64 l1, u64 l2, u64 l3, u64 l4, u64 l5, u64 l6, u64 l7, u64 l8, u64 l9, u64 l10, u64 l11, u64 l12);
 
 /* bech32_decode::eights::walk_groups::<#39fd342f4eda3caf> */
 static u64 f4(Machine *m, u64 l0, u64 l1, u64 l2) {
@@ -6218,7 +6212,7 @@ static void f20(Machine *m, u64 l0, u64 l1, u64 l2) {
     I32_STORE(m, t0, w0);
 }
 
-/* bech32_checksum::checksums::Bech32Checksum::one_beside */
+/* bech32_checksum::checksums::Bech32Checksum::lookup_error_beside */
 static void f21(Machine *m, u64 l0, u64 l1, u64 l2, u64 l3, u64 l4) {
     u64 l5 = 0, t0, t1;
     FRAME(m, 48u);
@@ -6660,7 +6654,7 @@ static void f24(Machine *m, u64 l0, u64 l1, u64 l2, u64 l3, u64 l4) {
     return;
 }
 
-/* bech32_checksum::checksums::Bech32Checksum::values_or_none */
+/* bech32_checksum::checksums::Bech32Checksum::lookup_values */
 static void f25(Machine *m, u64 l0, u64 l1, u64 l2, u64 l3, u64 l4) {
     u32 l6 = 0, l7 = 0, l8 = 0, l9 = 0, l10 = 0, l11 = 0, w0, w1, w2;
     u64 l5 = 0, t0, t1;
@@ -13568,7 +13562,7 @@ static void f56(Machine *m, u64 l0, u64 l1, u64 l2, u64 l3) {
     m->stack_pointer = t0;
 }
 
-/* bech32_bch::decoder::candidate::<#b4c943a319a09c28> */
+/* bech32_bch::decoder::decode_errors::<#b4c943a319a09c28> */
 static void f57(Machine *m, u64 l0, u64 l1, u64 l2, u64 l3, u64 l4, u64 l5) {
     u32 l9 = 0, l10 = 0, l11 = 0, l13 = 0, l14 = 0, l16 = 0, l18 = 0, l19 = 0, l20 = 0, l22 = 0, l23 = 0, l27 = 0, l28 = 0, l34 = 0, w0, w1;
     u32 w2, w3;
@@ -17060,7 +17054,7 @@ static void f63(Machine *m, u64 l0, u64 l1, u64 l2) {
     m->stack_pointer = t0;
 }
 
-/* bech32_checksum::checksums::Bech32mChecksum::one_beside */
+/* bech32_checksum::checksums::Bech32mChecksum::lookup_error_beside */
 static void f64(Machine *m, u64 l0, u64 l1, u64 l2, u64 l3, u64 l4) {
     u64 l5 = 0, t0, t1;
     FRAME(m, 64u);
@@ -17144,7 +17138,7 @@ static void f65(Machine *m, u64 l0, u64 l1, u64 l2, u64 l3, u64 l4) {
     return;
 }
 
-/* bech32_checksum::checksums::Bech32mChecksum::values_or_none */
+/* bech32_checksum::checksums::Bech32mChecksum::lookup_values */
 static void f66(Machine *m, u64 l0, u64 l1, u64 l2, u64 l3, u64 l4) {
     u32 w0;
     u64 l5 = 0, t0;
@@ -22724,7 +22718,7 @@ static u64 f91(Machine *m, u64 l0, u64 l1, u64 l2, u64 l3) {
     return 0;
 }
 
-/* liquid_calls::refusal::Refusal::number */
+/* bech32_more_calls::confidential::refusal::Refusal::number */
 static u32 f92(Machine *m, u64 l0) {
     u32 l1 = 0, l2 = 0, l3 = 0, l4 = 0, l5 = 0, l6 = 0, l7 = 0, w0;
     u64 t0;
@@ -22919,7 +22913,7 @@ static u32 f92(Machine *m, u64 l0) {
     l7 = w0;
     goto L0;
     L36:;
-    l7 = 71u;
+    l7 = 79u;
     goto L0;
     L35:;
     w0 = l4 + 46u;
@@ -23943,7 +23937,7 @@ static void f97(Machine *m, u64 l0, u64 l1, u64 l2, u32 l3, u64 l4, u64 l5, u64 
     m->stack_pointer = t0;
 }
 
-/* bech32_descriptor::rows::rows_of::<#c86c6b5d87d403a1> */
+/* bech32_descriptor::rows::rows_of::<#04530b1e1d33df31> */
 static void f98(Machine *m, u64 l0, u64 l1, u64 l2) {
     u32 w0;
     u64 l3 = 0, l4 = 0, l5 = 0, l6 = 0, t0, t1, t2;
@@ -24131,337 +24125,103 @@ static void f98(Machine *m, u64 l0, u64 l1, u64 l2) {
     m->stack_pointer = t0;
 }
 
-/* std_alloc::vec::Vec::move_to::<#5c7e775d1fbef44e> */
+/* std_alloc::vec::Vec::move_to::<#9ab2c684a909dbc2> */
 static u32 f99(Machine *m, u64 l0, u64 l1) {
-    u32 l4 = 0, l15 = 0, w0;
-    u64 l2 = 0, l3 = 0, l5 = 0, l6 = 0, l7 = 0, l8 = 0, l9 = 0, l10 = 0, l11 = 0, l12 = 0, l13 = 0, l14 = 0, t0, t1;
+    u32 l3 = 0, l6 = 0, l10 = 0, w0;
+    u64 l2 = 0, l4 = 0, l5 = 0, l7 = 0, l8 = 0, l9 = 0, t0, t1, t2;
     FRAME(m, 32u);
     t0 = m->stack_pointer;
     t0 = t0 - 32ull;
     l2 = t0;
     m->stack_pointer = l2;
-    l3 = l2;
-    l4 = 0u;
+    l3 = 0u;
     w0 = l1 >= 1152921504606846976ull;
     if (w0) goto L1;
+    t0 = l0 + 24ull;
+    l4 = t0;
     t0 = l0 + 16ull;
     t0 = I64_LOAD(m, t0);
     l5 = t0;
     w0 = l5 == 0;
     if (w0) goto L3;
-    t0 = I64_LOAD(m, l0);
-    l6 = t0;
-    t0 = l0 + 24ull;
-    t0 = I64_LOAD(m, t0);
-    l7 = t0;
-    t0 = l7 + 16ull;
-    t0 = I64_LOAD(m, t0);
-    l2 = t0;
-    t0 = l0 + 8ull;
-    t0 = I64_LOAD(m, t0);
-    l8 = t0;
-    t0 = l1 - l5;
-    l9 = t0;
-    w0 = l8 > l9;
-    if (w0) goto L7;
-    w0 = l2 != 1ull;
-    if (w0) goto L7;
-    t0 = l7 + 8ull;
-    t0 = I64_LOAD(m, t0);
-    l2 = t0;
-    t0 = l2 + 32ull;
-    t0 = I64_LOAD(m, t0);
-    l10 = t0;
-    t0 = l9 << 3;
-    l9 = t0;
-    w0 = l10 < l9;
-    if (w0) goto L9;
-    t0 = I64_LOAD(m, l2);
-    l11 = t0;
-    t0 = l11 + l10;
-    w0 = l6 == t0;
-    if (w0) goto L8;
-    L9:;
-    t0 = l1 << 3;
-    l9 = t0;
-    goto L6;
-    L8:;
-    t0 = l2 + 32ull;
-    t1 = l10 - l9;
-    l2 = t1;
-    I64_STORE(m, t0, l2);
-    t0 = l11 + l2;
-    l12 = t0;
-    t0 = l12 - l6;
-    t1 = l8 << 3;
-    l2 = t1;
-    w0 = t0 >= l2;
-    if (w0) goto L10;
-    w0 = l8 == 0;
-    if (w0) goto L2;
-    t0 = l8 & 3ull;
-    l13 = t0;
-    l2 = 0ull;
-    w0 = l8 < 4ull;
-    if (w0) goto L11;
-    l14 = 0ull;
-    t0 = l8 & 18446744073709551612ull;
-    t0 = 0ull - t0;
-    l7 = t0;
-    l2 = l12;
-    l9 = l6;
-    L12:;
-    t0 = I64_LOAD(m, l9);
-    I64_STORE(m, l2, t0);
-    t0 = l2 + 8ull;
-    t1 = l9 + 8ull;
-    t1 = I64_LOAD(m, t1);
-    I64_STORE(m, t0, t1);
     t0 = l2 + 16ull;
-    t1 = l9 + 16ull;
-    t1 = I64_LOAD(m, t1);
-    I64_STORE(m, t0, t1);
-    t0 = l2 + 24ull;
-    t1 = l9 + 24ull;
-    t1 = I64_LOAD(m, t1);
-    I64_STORE(m, t0, t1);
-    t0 = l2 + 32ull;
-    l2 = t0;
-    t0 = l9 + 32ull;
-    l9 = t0;
-    t0 = l14 + 18446744073709551612ull;
-    l14 = t0;
-    w0 = l7 != l14;
-    if (w0) goto L12;
-    w0 = l13 == 0;
-    if (w0) goto L2;
-    t0 = 0ull - l14;
-    l2 = t0;
-    L11:;
-    t0 = l2 << 3;
-    l9 = t0;
-    t0 = l10 + l9;
-    t1 = l5 << 3;
-    t0 = t0 + t1;
-    t1 = l1 << 3;
-    t0 = t0 - t1;
-    t0 = l11 + t0;
-    l2 = t0;
-    t0 = l6 + l9;
-    l9 = t0;
-    L13:;
-    t0 = I64_LOAD(m, l9);
-    I64_STORE(m, l2, t0);
-    t0 = l2 + 8ull;
-    l2 = t0;
-    t0 = l9 + 8ull;
-    l9 = t0;
-    t0 = l13 + 18446744073709551615ull;
-    l13 = t0;
-    w0 = l13 != 0ull;
-    if (w0) goto L13;
-    goto L2;
-    L10:;
-    w0 = l2 == 0;
-    if (w0) goto L2;
-    MEMORY_COPY(m, l12, l6, l2);
-    goto L2;
-    L7:;
-    t0 = l1 << 3;
-    l9 = t0;
-    w0 = l2 == 0;
-    if (w0) goto L5;
-    t0 = l7 + 8ull;
-    t0 = I64_LOAD(m, t0);
-    l2 = t0;
-    t0 = l2 + 32ull;
-    t0 = I64_LOAD(m, t0);
-    l10 = t0;
-    L6:;
-    t0 = l10 & 18446744073709551608ull;
-    l13 = t0;
-    w0 = l13 < l9;
-    if (w0) goto L5;
-    t0 = l2 + 32ull;
-    t1 = l13 - l9;
-    l9 = t1;
-    I64_STORE(m, t0, l9);
-    t0 = I64_LOAD(m, l2);
-    t0 = t0 + l9;
-    l12 = t0;
-    l15 = 1u;
-    goto L4;
-    L5:;
-    t0 = l3 + 16ull;
-    f101(m, t0, l7, l9, 8ull);
-    t0 = I64_LOAD(m, l3 + 24u);
-    l12 = t0;
-    w0 = I32_LOAD8_U(m, l3 + 16u);
-    l15 = w0;
-    L4:;
-    w0 = l15 & 1u;
-    w0 = w0 == 0;
-    if (w0) goto L1;
-    t0 = l7 + 24ull;
-    l2 = t0;
-    t0 = I64_LOAD(m, l2);
-    l9 = t0;
-    w0 = l9 == 18446744073709551615ull;
-    if (w0) goto L1;
-    t0 = l9 + 1ull;
-    I64_STORE(m, l2, t0);
-    t0 = l12 - l6;
-    t1 = l8 << 3;
-    l2 = t1;
-    w0 = t0 >= l2;
-    if (w0) goto L15;
-    w0 = l8 == 0;
-    if (w0) goto L14;
-    t0 = l8 & 3ull;
-    l14 = t0;
-    l10 = 0ull;
-    w0 = l8 < 4ull;
-    if (w0) goto L16;
-    t0 = l8 & 18446744073709551612ull;
-    l8 = t0;
-    l2 = 0ull;
-    l10 = 0ull;
-    L17:;
-    t0 = l12 + l2;
-    l9 = t0;
-    t0 = l6 + l2;
-    l13 = t0;
-    t0 = I64_LOAD(m, l13);
-    I64_STORE(m, l9, t0);
-    t0 = l9 + 8ull;
-    t1 = l13 + 8ull;
-    t1 = I64_LOAD(m, t1);
-    I64_STORE(m, t0, t1);
-    t0 = l9 + 16ull;
-    t1 = l13 + 16ull;
-    t1 = I64_LOAD(m, t1);
-    I64_STORE(m, t0, t1);
-    t0 = l9 + 24ull;
-    t1 = l13 + 24ull;
-    t1 = I64_LOAD(m, t1);
-    I64_STORE(m, t0, t1);
-    t0 = l2 + 32ull;
-    l2 = t0;
-    t0 = l10 + 4ull;
-    l10 = t0;
-    w0 = l8 != l10;
-    if (w0) goto L17;
-    w0 = l14 == 0;
-    if (w0) goto L14;
-    L16:;
-    t0 = l10 << 3;
-    l9 = t0;
-    t0 = l12 + l9;
-    l2 = t0;
-    t0 = l6 + l9;
-    l9 = t0;
-    L18:;
-    t0 = I64_LOAD(m, l9);
-    I64_STORE(m, l2, t0);
-    t0 = l2 + 8ull;
-    l2 = t0;
-    t0 = l9 + 8ull;
-    l9 = t0;
-    t0 = l14 + 18446744073709551615ull;
-    l14 = t0;
-    w0 = l14 != 0ull;
-    if (w0) goto L18;
-    goto L14;
-    L15:;
-    w0 = l2 == 0;
-    if (w0) goto L14;
-    MEMORY_COPY(m, l12, l6, l2);
-    L14:;
-    t0 = l7 + 16ull;
-    t0 = I64_LOAD(m, t0);
-    w0 = t0 != 1ull;
-    if (w0) goto L19;
-    t0 = l7 + 8ull;
-    t0 = I64_LOAD(m, t0);
-    l2 = t0;
-    t0 = I64_LOAD(m, l2);
-    t1 = l2 + 32ull;
-    l2 = t1;
-    t1 = I64_LOAD(m, l2);
-    l9 = t1;
-    t0 = t0 + l9;
-    w0 = l6 != t0;
-    if (w0) goto L19;
-    t0 = l5 << 3;
-    t0 = l9 + t0;
-    I64_STORE(m, l2, t0);
-    L19:;
-    t0 = l7 + 24ull;
-    l2 = t0;
-    t0 = I64_LOAD(m, l2);
-    t0 = t0 + 18446744073709551615ull;
-    I64_STORE(m, l2, t0);
+    t1 = I64_LOAD(m, l0);
+    t2 = l0 + 8ull;
+    t2 = I64_LOAD(m, t2);
+    f101(m, t0, l4, t1, t2, l5, l1);
+    t0 = I64_LOAD(m, l2 + 24u);
+    l4 = t0;
+    w0 = I32_LOAD8_U(m, l2 + 16u);
+    l6 = w0;
     goto L2;
     L3:;
     t0 = l1 << 3;
-    l2 = t0;
-    t0 = l0 + 24ull;
-    t0 = I64_LOAD(m, t0);
-    l9 = t0;
-    t0 = l9 + 16ull;
+    l5 = t0;
+    t0 = I64_LOAD(m, l4);
+    l7 = t0;
+    t0 = l7 + 16ull;
     t0 = I64_LOAD(m, t0);
     w0 = t0 == 0;
-    if (w0) goto L21;
-    t0 = l9 + 8ull;
+    if (w0) goto L5;
+    t0 = l7 + 8ull;
     t0 = I64_LOAD(m, t0);
-    l13 = t0;
-    t0 = l13 + 32ull;
-    l14 = t0;
-    t0 = I64_LOAD(m, l14);
+    l4 = t0;
+    t0 = l4 + 32ull;
+    l8 = t0;
+    t0 = I64_LOAD(m, l8);
     t0 = t0 & 18446744073709551608ull;
-    l12 = t0;
-    w0 = l12 < l2;
-    if (w0) goto L21;
-    t0 = l12 - l2;
-    l2 = t0;
-    I64_STORE(m, l14, l2);
-    t0 = I64_LOAD(m, l13);
-    t0 = t0 + l2;
-    l12 = t0;
-    l15 = 1u;
-    goto L20;
-    L21:;
-    f101(m, l3, l9, l2, 8ull);
-    t0 = I64_LOAD(m, l3 + 8u);
-    l12 = t0;
-    w0 = I32_LOAD8_U(m, l3);
-    l15 = w0;
-    L20:;
-    w0 = l15 & 1u;
-    w0 = w0 == 0;
-    if (w0) goto L1;
-    t0 = l9 + 24ull;
-    l2 = t0;
-    t0 = I64_LOAD(m, l2);
     l9 = t0;
-    w0 = l9 == 18446744073709551615ull;
-    if (w0) goto L1;
-    t0 = l9 + 1ull;
-    I64_STORE(m, l2, t0);
+    w0 = l9 < l5;
+    if (w0) goto L5;
+    t0 = l9 - l5;
+    l5 = t0;
+    I64_STORE(m, l8, l5);
+    t0 = I64_LOAD(m, l4);
+    t0 = t0 + l5;
+    l4 = t0;
+    l10 = 1u;
+    goto L4;
+    L5:;
+    f102(m, l2, l7, l5, 8ull);
+    t0 = I64_LOAD(m, l2 + 8u);
+    l4 = t0;
+    w0 = I32_LOAD8_U(m, l2);
+    l10 = w0;
+    L4:;
+    l6 = 1u;
+    w0 = l10 & 1u;
+    if (w0) goto L6;
+    l4 = 0ull;
+    goto L2;
+    L6:;
+    t0 = l7 + 24ull;
+    l5 = t0;
+    t0 = I64_LOAD(m, l5);
+    l7 = t0;
+    w0 = l7 != 18446744073709551615ull;
+    if (w0) goto L7;
+    l4 = 0ull;
+    goto L2;
+    L7:;
+    t0 = l7 + 1ull;
+    I64_STORE(m, l5, t0);
+    l6 = 0u;
     L2:;
-    I64_STORE(m, l0, l12);
+    w0 = l6 & 255u;
+    if (w0) goto L1;
     t0 = l0 + 16ull;
     I64_STORE(m, t0, l1);
-    l4 = 1u;
+    I64_STORE(m, l0, l4);
+    l3 = 1u;
     L1:;
-    t0 = l3 + 32ull;
+    t0 = l2 + 32ull;
     m->stack_pointer = t0;
-    return l4;
+    return l3;
     TRAP(m);
     return 0;
 }
 
-/* std_alloc::vec::Vec::grow_amortized::<#5c7e775d1fbef44e> */
+/* std_alloc::vec::Vec::grow_amortized::<#9ab2c684a909dbc2> */
 static u32 f100(Machine *m, u64 l0) {
     u32 l5 = 0, w0;
     u64 l2 = 0, l3 = 0, l4 = 0, t0;
@@ -24492,8 +24252,279 @@ static u32 f100(Machine *m, u64 l0) {
     return 0;
 }
 
-/* bumpalo::bump::Bump::alloc_layout_slow::<#42fa35ebfdfe3349> */
-static void f101(Machine *m, u64 l0, u64 l1, u64 l2, u64 l3) {
+/* core::alloc::RefAllocator::grow::<#376d660de2b7a1fc> */
+static void f101(Machine *m, u64 l0, u64 l1, u64 l2, u64 l3, u64 l4, u64 l5) {
+    u32 l12 = 0, l14 = 0, w0;
+    u64 l6 = 0, l7 = 0, l8 = 0, l9 = 0, l10 = 0, l11 = 0, l13 = 0, t0, t1;
+    FRAME(m, 16u);
+    t0 = m->stack_pointer;
+    t0 = t0 - 16ull;
+    l6 = t0;
+    m->stack_pointer = l6;
+    l7 = l6;
+    t0 = I64_LOAD(m, l1);
+    l8 = t0;
+    t0 = l8 + 16ull;
+    t0 = I64_LOAD(m, t0);
+    l6 = t0;
+    t0 = l5 - l4;
+    l1 = t0;
+    w0 = l3 > l1;
+    if (w0) goto L6;
+    w0 = l6 != 1ull;
+    if (w0) goto L6;
+    t0 = l8 + 8ull;
+    t0 = I64_LOAD(m, t0);
+    l6 = t0;
+    t0 = l6 + 32ull;
+    t0 = I64_LOAD(m, t0);
+    l9 = t0;
+    t0 = l1 << 3;
+    l1 = t0;
+    w0 = l9 < l1;
+    if (w0) goto L8;
+    t0 = I64_LOAD(m, l6);
+    l10 = t0;
+    t0 = l10 + l9;
+    w0 = l2 == t0;
+    if (w0) goto L7;
+    L8:;
+    t0 = l5 << 3;
+    l1 = t0;
+    goto L5;
+    L7:;
+    t0 = l6 + 32ull;
+    t1 = l9 - l1;
+    l6 = t1;
+    I64_STORE(m, t0, l6);
+    t0 = l10 + l6;
+    l11 = t0;
+    t0 = l11 - l2;
+    t1 = l3 << 3;
+    l6 = t1;
+    w0 = t0 >= l6;
+    if (w0) goto L9;
+    l12 = 0u;
+    w0 = l3 == 0;
+    if (w0) goto L1;
+    t0 = l3 & 3ull;
+    l1 = t0;
+    l6 = 0ull;
+    w0 = l3 < 4ull;
+    if (w0) goto L10;
+    l8 = 0ull;
+    t0 = l3 & 18446744073709551612ull;
+    t0 = 0ull - t0;
+    l13 = t0;
+    l3 = l11;
+    l6 = l2;
+    L11:;
+    t0 = I64_LOAD(m, l6);
+    I64_STORE(m, l3, t0);
+    t0 = l3 + 8ull;
+    t1 = l6 + 8ull;
+    t1 = I64_LOAD(m, t1);
+    I64_STORE(m, t0, t1);
+    t0 = l3 + 16ull;
+    t1 = l6 + 16ull;
+    t1 = I64_LOAD(m, t1);
+    I64_STORE(m, t0, t1);
+    t0 = l3 + 24ull;
+    t1 = l6 + 24ull;
+    t1 = I64_LOAD(m, t1);
+    I64_STORE(m, t0, t1);
+    t0 = l3 + 32ull;
+    l3 = t0;
+    t0 = l6 + 32ull;
+    l6 = t0;
+    t0 = l8 + 18446744073709551612ull;
+    l8 = t0;
+    w0 = l13 != l8;
+    if (w0) goto L11;
+    w0 = l1 == 0;
+    if (w0) goto L1;
+    t0 = 0ull - l8;
+    l6 = t0;
+    L10:;
+    t0 = l6 << 3;
+    l6 = t0;
+    t0 = l9 + l6;
+    t1 = l4 << 3;
+    t0 = t0 + t1;
+    t1 = l5 << 3;
+    t0 = t0 - t1;
+    t0 = l10 + t0;
+    l3 = t0;
+    t0 = l2 + l6;
+    l6 = t0;
+    L12:;
+    t0 = I64_LOAD(m, l6);
+    I64_STORE(m, l3, t0);
+    t0 = l3 + 8ull;
+    l3 = t0;
+    t0 = l6 + 8ull;
+    l6 = t0;
+    t0 = l1 + 18446744073709551615ull;
+    l1 = t0;
+    w0 = l1 != 0ull;
+    if (w0) goto L12;
+    goto L1;
+    L9:;
+    w0 = l6 == 0;
+    if (w0) goto L2;
+    MEMORY_COPY(m, l11, l2, l6);
+    goto L2;
+    L6:;
+    t0 = l5 << 3;
+    l1 = t0;
+    w0 = l6 == 0;
+    if (w0) goto L4;
+    t0 = l8 + 8ull;
+    t0 = I64_LOAD(m, t0);
+    l6 = t0;
+    t0 = l6 + 32ull;
+    t0 = I64_LOAD(m, t0);
+    l9 = t0;
+    L5:;
+    t0 = l9 & 18446744073709551608ull;
+    l5 = t0;
+    w0 = l5 < l1;
+    if (w0) goto L4;
+    t0 = l6 + 32ull;
+    t1 = l5 - l1;
+    l1 = t1;
+    I64_STORE(m, t0, l1);
+    t0 = I64_LOAD(m, l6);
+    t0 = t0 + l1;
+    l13 = t0;
+    l14 = 1u;
+    goto L3;
+    L4:;
+    f102(m, l7, l8, l1, 8ull);
+    t0 = I64_LOAD(m, l7 + 8u);
+    l13 = t0;
+    w0 = I32_LOAD8_U(m, l7);
+    l14 = w0;
+    L3:;
+    l12 = 1u;
+    l11 = 0ull;
+    w0 = l14 & 1u;
+    w0 = w0 == 0;
+    if (w0) goto L1;
+    t0 = l8 + 24ull;
+    l6 = t0;
+    t0 = I64_LOAD(m, l6);
+    l1 = t0;
+    w0 = l1 == 18446744073709551615ull;
+    if (w0) goto L1;
+    l11 = l13;
+    t0 = l1 + 1ull;
+    I64_STORE(m, l6, t0);
+    t0 = l13 - l2;
+    t1 = l3 << 3;
+    l6 = t1;
+    w0 = t0 >= l6;
+    if (w0) goto L14;
+    w0 = l3 == 0;
+    if (w0) goto L13;
+    t0 = l3 & 3ull;
+    l5 = t0;
+    l9 = 0ull;
+    w0 = l3 < 4ull;
+    if (w0) goto L15;
+    t0 = l3 & 18446744073709551612ull;
+    l10 = t0;
+    l3 = 0ull;
+    l9 = 0ull;
+    L16:;
+    t0 = l13 + l3;
+    l6 = t0;
+    t0 = l2 + l3;
+    l1 = t0;
+    t0 = I64_LOAD(m, l1);
+    I64_STORE(m, l6, t0);
+    t0 = l6 + 8ull;
+    t1 = l1 + 8ull;
+    t1 = I64_LOAD(m, t1);
+    I64_STORE(m, t0, t1);
+    t0 = l6 + 16ull;
+    t1 = l1 + 16ull;
+    t1 = I64_LOAD(m, t1);
+    I64_STORE(m, t0, t1);
+    t0 = l6 + 24ull;
+    t1 = l1 + 24ull;
+    t1 = I64_LOAD(m, t1);
+    I64_STORE(m, t0, t1);
+    t0 = l3 + 32ull;
+    l3 = t0;
+    t0 = l9 + 4ull;
+    l9 = t0;
+    w0 = l10 != l9;
+    if (w0) goto L16;
+    w0 = l5 == 0;
+    if (w0) goto L13;
+    L15:;
+    t0 = l9 << 3;
+    l6 = t0;
+    t0 = l13 + l6;
+    l3 = t0;
+    t0 = l2 + l6;
+    l6 = t0;
+    L17:;
+    t0 = I64_LOAD(m, l6);
+    I64_STORE(m, l3, t0);
+    t0 = l3 + 8ull;
+    l3 = t0;
+    t0 = l6 + 8ull;
+    l6 = t0;
+    t0 = l5 + 18446744073709551615ull;
+    l5 = t0;
+    w0 = l5 != 0ull;
+    if (w0) goto L17;
+    goto L13;
+    L14:;
+    w0 = l6 == 0;
+    if (w0) goto L13;
+    MEMORY_COPY(m, l11, l2, l6);
+    L13:;
+    t0 = l8 + 16ull;
+    t0 = I64_LOAD(m, t0);
+    w0 = t0 != 1ull;
+    if (w0) goto L18;
+    t0 = l8 + 8ull;
+    t0 = I64_LOAD(m, t0);
+    l3 = t0;
+    t0 = I64_LOAD(m, l3);
+    t1 = l3 + 32ull;
+    l3 = t1;
+    t1 = I64_LOAD(m, l3);
+    l6 = t1;
+    t0 = t0 + l6;
+    w0 = l2 != t0;
+    if (w0) goto L18;
+    t0 = l4 << 3;
+    t0 = l6 + t0;
+    I64_STORE(m, l3, t0);
+    L18:;
+    t0 = l8 + 24ull;
+    l3 = t0;
+    t0 = I64_LOAD(m, l3);
+    t0 = t0 + 18446744073709551615ull;
+    I64_STORE(m, l3, t0);
+    L2:;
+    l12 = 0u;
+    L1:;
+    I64_STORE(m, l0 + 8u, l11);
+    I32_STORE8(m, l0, l12);
+    t0 = l7 + 16ull;
+    m->stack_pointer = t0;
+    return;
+    TRAP(m);
+    return;
+}
+
+/* bumpalo::bump::Bump::alloc_layout_slow::<#93844724bfbd627c> */
+static void f102(Machine *m, u64 l0, u64 l1, u64 l2, u64 l3) {
     u32 l7 = 0, l8 = 0, l9 = 0, l17 = 0, w0, w1, w2;
     u64 l4 = 0, l5 = 0, l6 = 0, l10 = 0, l11 = 0, l12 = 0, l13 = 0, l14 = 0, l15 = 0, l16 = 0, l18 = 0, l19 = 0, l20 = 0, t0, t1;
     l4 = 0ull;
@@ -24699,115 +24730,68 @@ static void f101(Machine *m, u64 l0, u64 l1, u64 l2, u64 l3) {
     return;
 }
 
-/* std_alloc::vec::Vec::from_slice::<#00f85782939b38e3> */
-static void f102(Machine *m, u64 l0, u64 l1, u64 l2, u64 l3) {
-    u32 l8 = 0, w0;
-    u64 l4 = 0, l5 = 0, l6 = 0, l7 = 0, l9 = 0, l10 = 0, l11 = 0, t0, t1, t2;
-    FRAME(m, 144u);
+/* std_alloc::vec::Vec::from_slice::<#a608d62cdeb33eab> */
+static void f103(Machine *m, u64 l0, u64 l1, u64 l2, u64 l3) {
+    u32 l7 = 0, w0;
+    u64 l4 = 0, l5 = 0, l6 = 0, l8 = 0, l9 = 0, l10 = 0, l11 = 0, t0, t1, t2;
+    FRAME(m, 112u);
     t0 = m->stack_pointer;
-    t0 = t0 - 144ull;
+    t0 = t0 - 112ull;
     l4 = t0;
     m->stack_pointer = l4;
     l5 = l4;
-    I64_STORE(m, l5 + 31u, 0ull);
-    I64_STORE(m, l5 + 24u, 0ull);
-    I64_STORE(m, l5 + 16u, 0ull);
-    I64_STORE(m, l5 + 8u, 0ull);
+    I64_STORE(m, l5 + 72u, 0ull);
+    I64_STORE(m, l5 + 64u, 0ull);
+    I64_STORE(m, l5 + 56u, 0ull);
+    I64_STORE(m, l5 + 48u, 0ull);
+    I64_STORE(m, l5 + 40u, 0ull);
     I64_STORE(m, l5, 0ull);
-    I64_STORE(m, l5 + 112u, 0ull);
-    I64_STORE(m, l5 + 120u, 0ull);
-    I64_STORE(m, l5 + 128u, l1);
-    t0 = l5 + 143ull;
-    I64_STORE(m, l5 + 104u, t0);
-    t0 = l5 + 104ull;
-    w0 = f103(m, t0, l3);
-    if (w0) goto L2;
-    t0 = I64_LOAD(m, l5 + 120u);
-    l4 = t0;
-    w0 = l4 == 0;
-    if (w0) goto L3;
-    t0 = I64_LOAD(m, l5 + 128u);
-    l3 = t0;
-    t0 = l3 + 16ull;
-    t0 = I64_LOAD(m, t0);
-    w0 = t0 != 1ull;
-    if (w0) goto L4;
-    t0 = I64_LOAD(m, l5 + 104u);
-    t1 = l3 + 8ull;
-    t1 = I64_LOAD(m, t1);
-    l1 = t1;
-    t1 = I64_LOAD(m, l1);
-    t2 = l1 + 32ull;
-    l1 = t2;
-    t2 = I64_LOAD(m, l1);
-    l6 = t2;
-    t1 = t1 + l6;
-    w0 = t0 != t1;
-    if (w0) goto L4;
-    t0 = l6 + l4;
-    I64_STORE(m, l1, t0);
-    L4:;
-    t0 = l3 + 24ull;
-    l3 = t0;
-    t0 = I64_LOAD(m, l3);
-    t0 = t0 + 18446744073709551615ull;
-    I64_STORE(m, l3, t0);
-    L3:;
-    I32_STORE8(m, l0, 1u);
-    t0 = l0 + 8ull;
-    I64_STORE(m, t0, 0ull);
-    t0 = l0 + 16ull;
-    I64_STORE(m, t0, 0ull);
-    t0 = l0 + 24ull;
-    I64_STORE(m, t0, 0ull);
-    t0 = l0 + 32ull;
-    I64_STORE(m, t0, 0ull);
-    goto L0;
-    L2:;
-    t0 = I64_LOAD(m, l5 + 128u);
-    l1 = t0;
-    I64_STORE(m, l5 + 64u, l1);
-    t0 = I64_LOAD(m, l5 + 120u);
-    l7 = t0;
-    I64_STORE(m, l5 + 56u, l7);
-    t0 = I64_LOAD(m, l5 + 112u);
-    l4 = t0;
-    I64_STORE(m, l5 + 48u, l4);
-    t0 = I64_LOAD(m, l5 + 104u);
-    l6 = t0;
-    I64_STORE(m, l5 + 40u, l6);
-    I64_STORE(m, l5 + 72u, l6);
-    I64_STORE(m, l5 + 80u, l4);
-    I64_STORE(m, l5 + 88u, l7);
-    I64_STORE(m, l5 + 96u, l1);
-    t0 = l7 - l4;
-    w0 = l3 <= t0;
-    if (w0) goto L7;
-    t0 = l5 + 72ull;
-    w0 = f104(m, t0, l3);
-    l8 = w0;
-    t0 = I64_LOAD(m, l5 + 88u);
-    l7 = t0;
-    w0 = l8 == 0;
-    if (w0) goto L6;
-    t0 = I64_LOAD(m, l5 + 80u);
-    l4 = t0;
-    L7:;
-    t0 = l4 + l3;
-    l9 = t0;
+    I64_STORE(m, l5 + 8u, 0ull);
+    I64_STORE(m, l5 + 16u, 0ull);
+    I64_STORE(m, l5 + 24u, 0ull);
+    I64_STORE(m, l5 + 31u, 0ull);
+    t0 = l5 + 40ull;
+    f104(m, t0, l1, l3);
+    w0 = I32_LOAD8_U(m, l5 + 40u);
+    if (w0) goto L5;
     t0 = I64_LOAD(m, l5 + 72u);
-    t0 = t0 + l4;
-    l10 = t0;
-    t0 = l10 - l2;
-    w0 = t0 >= l3;
-    if (w0) goto L9;
-    t0 = l3 & 8188ull;
-    l11 = t0;
-    t0 = l3 & 3ull;
+    I64_STORE(m, l5 + 104u, t0);
+    t0 = I64_LOAD(m, l5 + 64u);
     l6 = t0;
+    I64_STORE(m, l5 + 96u, l6);
+    t0 = I64_LOAD(m, l5 + 56u);
+    l4 = t0;
+    I64_STORE(m, l5 + 88u, l4);
+    t0 = I64_LOAD(m, l5 + 48u);
+    I64_STORE(m, l5 + 80u, t0);
+    t0 = l6 - l4;
+    w0 = l3 <= t0;
+    if (w0) goto L6;
+    t0 = l5 + 80ull;
+    w0 = f105(m, t0, l3);
+    l7 = w0;
+    t0 = I64_LOAD(m, l5 + 96u);
+    l6 = t0;
+    w0 = l7 == 0;
+    if (w0) goto L4;
+    t0 = I64_LOAD(m, l5 + 88u);
+    l4 = t0;
+    L6:;
+    t0 = l4 + l3;
+    l8 = t0;
+    t0 = I64_LOAD(m, l5 + 80u);
+    t0 = t0 + l4;
+    l9 = t0;
+    t0 = l9 - l2;
+    w0 = t0 >= l3;
+    if (w0) goto L7;
+    t0 = l3 & 8188ull;
+    l10 = t0;
+    t0 = l3 & 3ull;
+    l11 = t0;
     l3 = 0ull;
-    L10:;
-    t0 = l10 + l3;
+    L8:;
+    t0 = l9 + l3;
     l4 = t0;
     t0 = l2 + l3;
     l1 = t0;
@@ -24827,52 +24811,53 @@ static void f102(Machine *m, u64 l0, u64 l1, u64 l2, u64 l3) {
     I32_STORE8(m, t0, w0);
     t0 = l3 + 4ull;
     l3 = t0;
-    w0 = l11 != l3;
-    if (w0) goto L10;
-    w0 = l6 == 0;
+    w0 = l10 != l3;
     if (w0) goto L8;
+    w0 = l11 == 0;
+    if (w0) goto L2;
     t0 = l2 + l3;
     l4 = t0;
-    t0 = l10 + l3;
+    t0 = l9 + l3;
     l3 = t0;
-    L11:;
+    L9:;
     w0 = I32_LOAD8_U(m, l4);
     I32_STORE8(m, l3, w0);
     t0 = l3 + 1ull;
     l3 = t0;
     t0 = l4 + 1ull;
     l4 = t0;
-    t0 = l6 + 18446744073709551615ull;
-    l6 = t0;
-    w0 = l6 != 0ull;
-    if (w0) goto L11;
-    goto L8;
-    L9:;
+    t0 = l11 + 18446744073709551615ull;
+    l11 = t0;
+    w0 = l11 != 0ull;
+    if (w0) goto L9;
+    goto L2;
+    L7:;
     w0 = l3 == 0;
-    if (w0) goto L8;
-    MEMORY_COPY(m, l10, l2, l3);
-    L8:;
-    I64_STORE(m, l5 + 88u, l7);
-    I64_STORE(m, l5 + 80u, l9);
-    t0 = I64_LOAD(m, l5 + 72u);
-    I64_STORE(m, l5 + 7u, t0);
-    I64_STORE(m, l5 + 15u, l9);
-    I64_STORE(m, l5 + 23u, l7);
-    t0 = I64_LOAD(m, l5 + 96u);
-    I64_STORE(m, l5 + 31u, t0);
-    l8 = 0u;
-    goto L5;
-    L6:;
-    l8 = 1u;
-    w0 = l7 == 0;
-    if (w0) goto L5;
-    t0 = I64_LOAD(m, l5 + 96u);
+    if (w0) goto L2;
+    MEMORY_COPY(m, l9, l2, l3);
+    goto L2;
+    L5:;
+    I32_STORE8(m, l0, 1u);
+    t0 = l0 + 8ull;
+    I64_STORE(m, t0, 0ull);
+    t0 = l0 + 16ull;
+    I64_STORE(m, t0, 0ull);
+    t0 = l0 + 24ull;
+    I64_STORE(m, t0, 0ull);
+    t0 = l0 + 32ull;
+    I64_STORE(m, t0, 0ull);
+    goto L0;
+    L4:;
+    l7 = 1u;
+    w0 = l6 == 0;
+    if (w0) goto L1;
+    t0 = I64_LOAD(m, l5 + 104u);
     l3 = t0;
     t0 = l3 + 16ull;
     t0 = I64_LOAD(m, t0);
     w0 = t0 != 1ull;
-    if (w0) goto L12;
-    t0 = I64_LOAD(m, l5 + 72u);
+    if (w0) goto L10;
+    t0 = I64_LOAD(m, l5 + 80u);
     t1 = l3 + 8ull;
     t1 = I64_LOAD(m, t1);
     l4 = t1;
@@ -24883,17 +24868,30 @@ static void f102(Machine *m, u64 l0, u64 l1, u64 l2, u64 l3) {
     l1 = t2;
     t1 = t1 + l1;
     w0 = t0 != t1;
-    if (w0) goto L12;
-    t0 = l1 + l7;
+    if (w0) goto L10;
+    t0 = l1 + l6;
     I64_STORE(m, l4, t0);
-    L12:;
+    L10:;
     t0 = l3 + 24ull;
     l3 = t0;
     t0 = I64_LOAD(m, l3);
     t0 = t0 + 18446744073709551615ull;
     I64_STORE(m, l3, t0);
-    L5:;
-    I32_STORE8(m, l0, l8);
+    goto L1;
+    TRAP(m);
+    return;
+    L2:;
+    I64_STORE(m, l5 + 96u, l6);
+    I64_STORE(m, l5 + 88u, l8);
+    t0 = I64_LOAD(m, l5 + 80u);
+    I64_STORE(m, l5 + 7u, t0);
+    I64_STORE(m, l5 + 15u, l8);
+    I64_STORE(m, l5 + 23u, l6);
+    t0 = I64_LOAD(m, l5 + 104u);
+    I64_STORE(m, l5 + 31u, t0);
+    l7 = 0u;
+    L1:;
+    I32_STORE8(m, l0, l7);
     t0 = l0 + 8ull;
     t1 = I64_LOAD(m, l5 + 7u);
     I64_STORE(m, t0, t1);
@@ -24906,310 +24904,166 @@ static void f102(Machine *m, u64 l0, u64 l1, u64 l2, u64 l3) {
     t0 = l0 + 32ull;
     t1 = I64_LOAD(m, l5 + 31u);
     I64_STORE(m, t0, t1);
-    goto L0;
-    TRAP(m);
-    return;
     L0:;
-    t0 = l5 + 144ull;
+    t0 = l5 + 112ull;
     m->stack_pointer = t0;
 }
 
-/* std_alloc::vec::Vec::move_to::<#fbd0377a0d92adb8> */
-static u32 f103(Machine *m, u64 l0, u64 l1) {
-    u32 l4 = 0, l15 = 0, w0;
-    u64 l2 = 0, l3 = 0, l5 = 0, l6 = 0, l7 = 0, l8 = 0, l9 = 0, l10 = 0, l11 = 0, l12 = 0, l13 = 0, l14 = 0, t0, t1;
+/* std_alloc::vec::Vec::with_capacity::<#3b09ce9e95961bb4> */
+static void f104(Machine *m, u64 l0, u64 l1, u64 l2) {
+    u32 l6 = 0, l9 = 0, w0;
+    u64 l3 = 0, l4 = 0, l5 = 0, l7 = 0, l8 = 0, t0, t1, t2, t3;
+    FRAME(m, 80u);
+    t0 = m->stack_pointer;
+    t0 = t0 - 80ull;
+    l3 = t0;
+    m->stack_pointer = l3;
+    I64_STORE(m, l3 + 48u, 0ull);
+    I64_STORE(m, l3 + 56u, 0ull);
+    I64_STORE(m, l3 + 64u, l1);
+    t0 = l3 + 79ull;
+    I64_STORE(m, l3 + 40u, t0);
+    w0 = l2 == 0;
+    if (w0) goto L3;
+    t0 = I64_LOAD(m, l3 + 56u);
+    l4 = t0;
+    w0 = SIGNED_64(l2) < SIGNED_64(0ull);
+    if (w0) goto L2;
+    w0 = l4 == 0;
+    if (w0) goto L5;
+    t0 = l3 + 24ull;
+    t1 = l3 + 40ull;
+    t1 = t1 + 24ull;
+    t2 = l3 + 79ull;
+    t3 = I64_LOAD(m, l3 + 48u);
+    f106(m, t0, t1, t2, t3, l4, l2);
+    t0 = I64_LOAD(m, l3 + 32u);
+    l5 = t0;
+    w0 = I32_LOAD8_U(m, l3 + 24u);
+    l6 = w0;
+    goto L4;
+    L5:;
+    t0 = l1 + 16ull;
+    t0 = I64_LOAD(m, t0);
+    w0 = t0 == 0;
+    if (w0) goto L7;
+    t0 = l1 + 8ull;
+    t0 = I64_LOAD(m, t0);
+    l5 = t0;
+    t0 = l5 + 32ull;
+    l7 = t0;
+    t0 = I64_LOAD(m, l7);
+    l8 = t0;
+    w0 = l8 < l2;
+    if (w0) goto L7;
+    t0 = l8 - l2;
+    l8 = t0;
+    I64_STORE(m, l7, l8);
+    t0 = I64_LOAD(m, l5);
+    t0 = t0 + l8;
+    l5 = t0;
+    l9 = 1u;
+    goto L6;
+    L7:;
+    t0 = l3 + 8ull;
+    f102(m, t0, l1, l2, 1ull);
+    t0 = I64_LOAD(m, l3 + 16u);
+    l5 = t0;
+    w0 = I32_LOAD8_U(m, l3 + 8u);
+    l9 = w0;
+    L6:;
+    l6 = 1u;
+    w0 = l9 & 1u;
+    if (w0) goto L8;
+    l5 = 0ull;
+    goto L4;
+    L8:;
+    t0 = l1 + 24ull;
+    l7 = t0;
+    t0 = I64_LOAD(m, l7);
+    l8 = t0;
+    w0 = l8 != 18446744073709551615ull;
+    if (w0) goto L9;
+    l5 = 0ull;
+    goto L4;
+    L9:;
+    t0 = l8 + 1ull;
+    I64_STORE(m, l7, t0);
+    l6 = 0u;
+    L4:;
+    w0 = l6 & 255u;
+    if (w0) goto L2;
+    I64_STORE(m, l3 + 56u, l2);
+    I64_STORE(m, l3 + 40u, l5);
+    L3:;
+    I32_STORE8(m, l0, 0u);
+    t0 = l0 + 8ull;
+    t1 = I64_LOAD(m, l3 + 40u);
+    I64_STORE(m, t0, t1);
+    t0 = l0 + 16ull;
+    t1 = I64_LOAD(m, l3 + 48u);
+    I64_STORE(m, t0, t1);
+    t0 = l0 + 24ull;
+    t1 = I64_LOAD(m, l3 + 56u);
+    I64_STORE(m, t0, t1);
+    t0 = l0 + 32ull;
+    t1 = I64_LOAD(m, l3 + 64u);
+    I64_STORE(m, t0, t1);
+    goto L1;
+    L2:;
+    w0 = l4 == 0;
+    if (w0) goto L10;
+    t0 = l1 + 16ull;
+    t0 = I64_LOAD(m, t0);
+    w0 = t0 != 1ull;
+    if (w0) goto L11;
+    t0 = l3 + 79ull;
+    t1 = l1 + 8ull;
+    t1 = I64_LOAD(m, t1);
+    l2 = t1;
+    t1 = I64_LOAD(m, l2);
+    t2 = l2 + 32ull;
+    l2 = t2;
+    t2 = I64_LOAD(m, l2);
+    l5 = t2;
+    t1 = t1 + l5;
+    w0 = t0 != t1;
+    if (w0) goto L11;
+    t0 = l5 + l4;
+    I64_STORE(m, l2, t0);
+    L11:;
+    t0 = l1 + 24ull;
+    l2 = t0;
+    t0 = I64_LOAD(m, l2);
+    t0 = t0 + 18446744073709551615ull;
+    I64_STORE(m, l2, t0);
+    L10:;
+    I32_STORE8(m, l0, 1u);
+    t0 = l0 + 8ull;
+    I64_STORE(m, t0, 0ull);
+    t0 = l0 + 16ull;
+    I64_STORE(m, t0, 0ull);
+    t0 = l0 + 24ull;
+    I64_STORE(m, t0, 0ull);
+    t0 = l0 + 32ull;
+    I64_STORE(m, t0, 0ull);
+    L1:;
+    t0 = l3 + 80ull;
+    m->stack_pointer = t0;
+    return;
+    TRAP(m);
+    return;
+}
+
+/* std_alloc::vec::Vec::grow_amortized::<#3b09ce9e95961bb4> */
+static u32 f105(Machine *m, u64 l0, u64 l1) {
+    u32 l3 = 0, l8 = 0, l10 = 0, w0;
+    u64 l2 = 0, l4 = 0, l5 = 0, l6 = 0, l7 = 0, l9 = 0, t0, t1;
     FRAME(m, 32u);
     t0 = m->stack_pointer;
     t0 = t0 - 32ull;
     l2 = t0;
     m->stack_pointer = l2;
-    l3 = l2;
-    l4 = 0u;
-    w0 = SIGNED_64(l1) <= SIGNED_64(18446744073709551615ull);
-    if (w0) goto L1;
-    t0 = l0 + 24ull;
-    t0 = I64_LOAD(m, t0);
-    l5 = t0;
-    t0 = l0 + 16ull;
-    t0 = I64_LOAD(m, t0);
-    l6 = t0;
-    w0 = l6 == 0;
-    if (w0) goto L3;
-    t0 = I64_LOAD(m, l0);
-    l7 = t0;
-    t0 = l5 + 16ull;
-    t0 = I64_LOAD(m, t0);
-    l2 = t0;
-    t0 = l0 + 8ull;
-    t0 = I64_LOAD(m, t0);
-    l8 = t0;
-    t0 = l1 - l6;
-    l9 = t0;
-    w0 = l8 > l9;
-    if (w0) goto L7;
-    w0 = l2 != 1ull;
-    if (w0) goto L7;
-    t0 = l5 + 8ull;
-    t0 = I64_LOAD(m, t0);
-    l2 = t0;
-    t0 = l2 + 32ull;
-    t0 = I64_LOAD(m, t0);
-    l10 = t0;
-    w0 = l10 < l9;
-    if (w0) goto L6;
-    t0 = I64_LOAD(m, l2);
-    l11 = t0;
-    t0 = l11 + l10;
-    w0 = l7 != t0;
-    if (w0) goto L6;
-    t0 = l2 + 32ull;
-    t1 = l10 - l9;
-    l2 = t1;
-    I64_STORE(m, t0, l2);
-    t0 = l11 + l2;
-    l12 = t0;
-    t0 = l12 - l7;
-    w0 = t0 >= l8;
-    if (w0) goto L8;
-    t0 = l8 & 3ull;
-    l13 = t0;
-    l9 = 0ull;
-    w0 = l8 < 4ull;
-    if (w0) goto L9;
-    t0 = l11 + l2;
-    l5 = t0;
-    t0 = l8 & 18446744073709551612ull;
-    l14 = t0;
-    l9 = 0ull;
-    L10:;
-    t0 = l5 + l9;
-    l2 = t0;
-    t0 = l7 + l9;
-    l8 = t0;
-    w0 = I32_LOAD8_U(m, l8);
-    I32_STORE8(m, l2, w0);
-    t0 = l2 + 1ull;
-    t1 = l8 + 1ull;
-    w0 = I32_LOAD8_U(m, t1);
-    I32_STORE8(m, t0, w0);
-    t0 = l2 + 2ull;
-    t1 = l8 + 2ull;
-    w0 = I32_LOAD8_U(m, t1);
-    I32_STORE8(m, t0, w0);
-    t0 = l2 + 3ull;
-    t1 = l8 + 3ull;
-    w0 = I32_LOAD8_U(m, t1);
-    I32_STORE8(m, t0, w0);
-    t0 = l9 + 4ull;
-    l9 = t0;
-    w0 = l14 != l9;
-    if (w0) goto L10;
-    w0 = l13 == 0;
-    if (w0) goto L2;
-    L9:;
-    t0 = l7 + l9;
-    l2 = t0;
-    t0 = l9 + l10;
-    t0 = t0 + l6;
-    t0 = t0 - l1;
-    t0 = l11 + t0;
-    l9 = t0;
-    L11:;
-    w0 = I32_LOAD8_U(m, l2);
-    I32_STORE8(m, l9, w0);
-    t0 = l9 + 1ull;
-    l9 = t0;
-    t0 = l2 + 1ull;
-    l2 = t0;
-    t0 = l13 + 18446744073709551615ull;
-    l13 = t0;
-    w0 = l13 != 0ull;
-    if (w0) goto L11;
-    goto L2;
-    L8:;
-    w0 = l8 == 0;
-    if (w0) goto L2;
-    MEMORY_COPY(m, l12, l7, l8);
-    goto L2;
-    L7:;
-    w0 = l2 == 0;
-    if (w0) goto L5;
-    t0 = l5 + 8ull;
-    t0 = I64_LOAD(m, t0);
-    l2 = t0;
-    t0 = l2 + 32ull;
-    t0 = I64_LOAD(m, t0);
-    l10 = t0;
-    L6:;
-    w0 = l10 < l1;
-    if (w0) goto L5;
-    t0 = l2 + 32ull;
-    t1 = l10 - l1;
-    l9 = t1;
-    I64_STORE(m, t0, l9);
-    t0 = I64_LOAD(m, l2);
-    t0 = t0 + l9;
-    l12 = t0;
-    l15 = 1u;
-    goto L4;
-    L5:;
-    t0 = l3 + 16ull;
-    f101(m, t0, l5, l1, 1ull);
-    t0 = I64_LOAD(m, l3 + 24u);
-    l12 = t0;
-    w0 = I32_LOAD8_U(m, l3 + 16u);
-    l15 = w0;
-    L4:;
-    w0 = l15 & 1u;
-    w0 = w0 == 0;
-    if (w0) goto L1;
-    t0 = l5 + 24ull;
-    l2 = t0;
-    t0 = I64_LOAD(m, l2);
-    l9 = t0;
-    w0 = l9 == 18446744073709551615ull;
-    if (w0) goto L1;
-    t0 = l9 + 1ull;
-    I64_STORE(m, l2, t0);
-    t0 = l12 - l7;
-    w0 = t0 >= l8;
-    if (w0) goto L13;
-    t0 = l8 & 3ull;
-    l13 = t0;
-    l9 = 0ull;
-    w0 = l8 < 4ull;
-    if (w0) goto L14;
-    t0 = l8 & 18446744073709551612ull;
-    l10 = t0;
-    l9 = 0ull;
-    L15:;
-    t0 = l12 + l9;
-    l2 = t0;
-    t0 = l7 + l9;
-    l8 = t0;
-    w0 = I32_LOAD8_U(m, l8);
-    I32_STORE8(m, l2, w0);
-    t0 = l2 + 1ull;
-    t1 = l8 + 1ull;
-    w0 = I32_LOAD8_U(m, t1);
-    I32_STORE8(m, t0, w0);
-    t0 = l2 + 2ull;
-    t1 = l8 + 2ull;
-    w0 = I32_LOAD8_U(m, t1);
-    I32_STORE8(m, t0, w0);
-    t0 = l2 + 3ull;
-    t1 = l8 + 3ull;
-    w0 = I32_LOAD8_U(m, t1);
-    I32_STORE8(m, t0, w0);
-    t0 = l9 + 4ull;
-    l9 = t0;
-    w0 = l10 != l9;
-    if (w0) goto L15;
-    w0 = l13 == 0;
-    if (w0) goto L12;
-    L14:;
-    t0 = l12 + l9;
-    l2 = t0;
-    t0 = l7 + l9;
-    l9 = t0;
-    L16:;
-    w0 = I32_LOAD8_U(m, l9);
-    I32_STORE8(m, l2, w0);
-    t0 = l2 + 1ull;
-    l2 = t0;
-    t0 = l9 + 1ull;
-    l9 = t0;
-    t0 = l13 + 18446744073709551615ull;
-    l13 = t0;
-    w0 = l13 != 0ull;
-    if (w0) goto L16;
-    goto L12;
-    L13:;
-    w0 = l8 == 0;
-    if (w0) goto L12;
-    MEMORY_COPY(m, l12, l7, l8);
-    L12:;
-    t0 = l5 + 16ull;
-    t0 = I64_LOAD(m, t0);
-    w0 = t0 != 1ull;
-    if (w0) goto L17;
-    t0 = l5 + 8ull;
-    t0 = I64_LOAD(m, t0);
-    l2 = t0;
-    t0 = I64_LOAD(m, l2);
-    t1 = l2 + 32ull;
-    l2 = t1;
-    t1 = I64_LOAD(m, l2);
-    l9 = t1;
-    t0 = t0 + l9;
-    w0 = l7 != t0;
-    if (w0) goto L17;
-    t0 = l9 + l6;
-    I64_STORE(m, l2, t0);
-    L17:;
-    t0 = l5 + 24ull;
-    l2 = t0;
-    t0 = I64_LOAD(m, l2);
-    t0 = t0 + 18446744073709551615ull;
-    I64_STORE(m, l2, t0);
-    goto L2;
-    L3:;
-    t0 = l5 + 16ull;
-    t0 = I64_LOAD(m, t0);
-    w0 = t0 == 0;
-    if (w0) goto L19;
-    t0 = l5 + 8ull;
-    t0 = I64_LOAD(m, t0);
-    l2 = t0;
-    t0 = l2 + 32ull;
-    l9 = t0;
-    t0 = I64_LOAD(m, l9);
-    l8 = t0;
-    w0 = l8 < l1;
-    if (w0) goto L19;
-    t0 = l8 - l1;
-    l8 = t0;
-    I64_STORE(m, l9, l8);
-    t0 = I64_LOAD(m, l2);
-    t0 = t0 + l8;
-    l12 = t0;
-    l15 = 1u;
-    goto L18;
-    L19:;
-    f101(m, l3, l5, l1, 1ull);
-    t0 = I64_LOAD(m, l3 + 8u);
-    l12 = t0;
-    w0 = I32_LOAD8_U(m, l3);
-    l15 = w0;
-    L18:;
-    w0 = l15 & 1u;
-    w0 = w0 == 0;
-    if (w0) goto L1;
-    t0 = l5 + 24ull;
-    l2 = t0;
-    t0 = I64_LOAD(m, l2);
-    l9 = t0;
-    w0 = l9 == 18446744073709551615ull;
-    if (w0) goto L1;
-    t0 = l9 + 1ull;
-    I64_STORE(m, l2, t0);
-    L2:;
-    I64_STORE(m, l0, l12);
-    t0 = l0 + 16ull;
-    I64_STORE(m, t0, l1);
-    l4 = 1u;
-    L1:;
-    t0 = l3 + 32ull;
-    m->stack_pointer = t0;
-    return l4;
-    TRAP(m);
-    return 0;
-}
-
-/* std_alloc::vec::Vec::grow_amortized::<#fbd0377a0d92adb8> */
-static u32 f104(Machine *m, u64 l0, u64 l1) {
-    u32 l3 = 0, w0;
-    u64 l4 = 0, l5 = 0, t0;
     l3 = 0u;
     t0 = l0 + 8ull;
     t0 = I64_LOAD(m, t0);
@@ -25221,26 +25075,334 @@ static u32 f104(Machine *m, u64 l0, u64 l1) {
     l1 = t0;
     w0 = l1 > 8ull;
     t0 = w0 ? l1 : 8ull;
-    l1 = t0;
+    l5 = t0;
     t0 = l0 + 16ull;
     t0 = I64_LOAD(m, t0);
-    l4 = t0;
-    t0 = l4 << 1;
+    l1 = t0;
+    t0 = l1 << 1;
+    l6 = t0;
+    w0 = l5 > l6;
+    t0 = w0 ? l5 : l6;
+    l6 = t0;
+    w0 = l1 < 4611686018427387904ull;
+    t0 = w0 ? l6 : l5;
     l5 = t0;
-    w0 = l1 > l5;
-    t0 = w0 ? l1 : l5;
-    w0 = l4 < 4611686018427387904ull;
-    t0 = w0 ? t0 : l1;
-    w0 = f103(m, l0, t0);
-    l3 = w0;
+    w0 = SIGNED_64(l5) < SIGNED_64(0ull);
+    if (w0) goto L1;
+    t0 = l0 + 24ull;
+    l7 = t0;
+    w0 = l1 == 0;
+    if (w0) goto L3;
+    t0 = l2 + 16ull;
+    t1 = I64_LOAD(m, l0);
+    f106(m, t0, l7, t1, l4, l1, l5);
+    t0 = I64_LOAD(m, l2 + 24u);
+    l1 = t0;
+    w0 = I32_LOAD8_U(m, l2 + 16u);
+    l8 = w0;
+    goto L2;
+    L3:;
+    t0 = I64_LOAD(m, l7);
+    l4 = t0;
+    t0 = l4 + 16ull;
+    t0 = I64_LOAD(m, t0);
+    w0 = t0 == 0;
+    if (w0) goto L5;
+    t0 = l4 + 8ull;
+    t0 = I64_LOAD(m, t0);
+    l1 = t0;
+    t0 = l1 + 32ull;
+    l7 = t0;
+    t0 = I64_LOAD(m, l7);
+    l9 = t0;
+    w0 = l9 < l6;
+    if (w0) goto L5;
+    t0 = l9 - l6;
+    l6 = t0;
+    I64_STORE(m, l7, l6);
+    t0 = I64_LOAD(m, l1);
+    t0 = t0 + l6;
+    l1 = t0;
+    l10 = 1u;
+    goto L4;
+    L5:;
+    f102(m, l2, l4, l6, 1ull);
+    t0 = I64_LOAD(m, l2 + 8u);
+    l1 = t0;
+    w0 = I32_LOAD8_U(m, l2);
+    l10 = w0;
+    L4:;
+    l8 = 1u;
+    w0 = l10 & 1u;
+    if (w0) goto L6;
+    l1 = 0ull;
+    goto L2;
+    L6:;
+    t0 = l4 + 24ull;
+    l4 = t0;
+    t0 = I64_LOAD(m, l4);
+    l6 = t0;
+    w0 = l6 != 18446744073709551615ull;
+    if (w0) goto L7;
+    l1 = 0ull;
+    goto L2;
+    L7:;
+    t0 = l6 + 1ull;
+    I64_STORE(m, l4, t0);
+    l8 = 0u;
+    L2:;
+    w0 = l8 & 255u;
+    if (w0) goto L1;
+    t0 = l0 + 16ull;
+    I64_STORE(m, t0, l5);
+    I64_STORE(m, l0, l1);
+    l3 = 1u;
     L1:;
+    t0 = l2 + 32ull;
+    m->stack_pointer = t0;
     return l3;
     TRAP(m);
     return 0;
 }
 
-/* bech32_descriptor::walks::push_put_at::<#c86c6b5d87d403a1> */
-static u32 f105(Machine *m, u64 l0, u64 l1, u64 l2, u64 l3, u64 l4) {
+/* core::alloc::RefAllocator::grow::<#e112ef1ec0061dd4> */
+static void f106(Machine *m, u64 l0, u64 l1, u64 l2, u64 l3, u64 l4, u64 l5) {
+    u32 l13 = 0, l14 = 0, w0;
+    u64 l6 = 0, l7 = 0, l8 = 0, l9 = 0, l10 = 0, l11 = 0, l12 = 0, t0, t1;
+    FRAME(m, 16u);
+    t0 = m->stack_pointer;
+    t0 = t0 - 16ull;
+    l6 = t0;
+    m->stack_pointer = l6;
+    l7 = l6;
+    t0 = I64_LOAD(m, l1);
+    l8 = t0;
+    t0 = l8 + 16ull;
+    t0 = I64_LOAD(m, t0);
+    l6 = t0;
+    t0 = l5 - l4;
+    l1 = t0;
+    w0 = l3 > l1;
+    if (w0) goto L6;
+    w0 = l6 != 1ull;
+    if (w0) goto L6;
+    t0 = l8 + 8ull;
+    t0 = I64_LOAD(m, t0);
+    l6 = t0;
+    t0 = l6 + 32ull;
+    t0 = I64_LOAD(m, t0);
+    l9 = t0;
+    w0 = l9 < l1;
+    if (w0) goto L5;
+    t0 = I64_LOAD(m, l6);
+    l10 = t0;
+    t0 = l10 + l9;
+    w0 = l2 != t0;
+    if (w0) goto L5;
+    t0 = l6 + 32ull;
+    t1 = l9 - l1;
+    l6 = t1;
+    I64_STORE(m, t0, l6);
+    t0 = l10 + l6;
+    l11 = t0;
+    t0 = l11 - l2;
+    w0 = t0 >= l3;
+    if (w0) goto L7;
+    t0 = l3 & 3ull;
+    l12 = t0;
+    l6 = 0ull;
+    w0 = l3 < 4ull;
+    if (w0) goto L8;
+    t0 = l3 & 18446744073709551612ull;
+    l8 = t0;
+    l6 = 0ull;
+    L9:;
+    t0 = l11 + l6;
+    l3 = t0;
+    t0 = l2 + l6;
+    l1 = t0;
+    w0 = I32_LOAD8_U(m, l1);
+    I32_STORE8(m, l3, w0);
+    t0 = l3 + 1ull;
+    t1 = l1 + 1ull;
+    w0 = I32_LOAD8_U(m, t1);
+    I32_STORE8(m, t0, w0);
+    t0 = l3 + 2ull;
+    t1 = l1 + 2ull;
+    w0 = I32_LOAD8_U(m, t1);
+    I32_STORE8(m, t0, w0);
+    t0 = l3 + 3ull;
+    t1 = l1 + 3ull;
+    w0 = I32_LOAD8_U(m, t1);
+    I32_STORE8(m, t0, w0);
+    t0 = l6 + 4ull;
+    l6 = t0;
+    w0 = l8 != l6;
+    if (w0) goto L9;
+    w0 = l12 == 0;
+    if (w0) goto L2;
+    L8:;
+    t0 = l2 + l6;
+    l3 = t0;
+    t0 = l6 + l9;
+    t0 = t0 + l4;
+    t0 = t0 - l5;
+    t0 = l10 + t0;
+    l6 = t0;
+    L10:;
+    w0 = I32_LOAD8_U(m, l3);
+    I32_STORE8(m, l6, w0);
+    t0 = l6 + 1ull;
+    l6 = t0;
+    t0 = l3 + 1ull;
+    l3 = t0;
+    t0 = l12 + 18446744073709551615ull;
+    l12 = t0;
+    w0 = l12 != 0ull;
+    if (w0) goto L10;
+    goto L2;
+    L7:;
+    w0 = l3 == 0;
+    if (w0) goto L2;
+    MEMORY_COPY(m, l11, l2, l3);
+    goto L2;
+    L6:;
+    w0 = l6 == 0;
+    if (w0) goto L4;
+    t0 = l8 + 8ull;
+    t0 = I64_LOAD(m, t0);
+    l6 = t0;
+    t0 = l6 + 32ull;
+    t0 = I64_LOAD(m, t0);
+    l9 = t0;
+    L5:;
+    w0 = l9 < l5;
+    if (w0) goto L4;
+    t0 = l6 + 32ull;
+    t1 = l9 - l5;
+    l1 = t1;
+    I64_STORE(m, t0, l1);
+    t0 = I64_LOAD(m, l6);
+    t0 = t0 + l1;
+    l5 = t0;
+    l13 = 1u;
+    goto L3;
+    L4:;
+    f102(m, l7, l8, l5, 1ull);
+    t0 = I64_LOAD(m, l7 + 8u);
+    l5 = t0;
+    w0 = I32_LOAD8_U(m, l7);
+    l13 = w0;
+    L3:;
+    l14 = 1u;
+    l11 = 0ull;
+    w0 = l13 & 1u;
+    w0 = w0 == 0;
+    if (w0) goto L1;
+    t0 = l8 + 24ull;
+    l6 = t0;
+    t0 = I64_LOAD(m, l6);
+    l1 = t0;
+    w0 = l1 == 18446744073709551615ull;
+    if (w0) goto L1;
+    l11 = l5;
+    t0 = l1 + 1ull;
+    I64_STORE(m, l6, t0);
+    t0 = l5 - l2;
+    w0 = t0 >= l3;
+    if (w0) goto L12;
+    t0 = l3 & 3ull;
+    l12 = t0;
+    l6 = 0ull;
+    w0 = l3 < 4ull;
+    if (w0) goto L13;
+    t0 = l3 & 18446744073709551612ull;
+    l9 = t0;
+    l6 = 0ull;
+    L14:;
+    t0 = l5 + l6;
+    l3 = t0;
+    t0 = l2 + l6;
+    l1 = t0;
+    w0 = I32_LOAD8_U(m, l1);
+    I32_STORE8(m, l3, w0);
+    t0 = l3 + 1ull;
+    t1 = l1 + 1ull;
+    w0 = I32_LOAD8_U(m, t1);
+    I32_STORE8(m, t0, w0);
+    t0 = l3 + 2ull;
+    t1 = l1 + 2ull;
+    w0 = I32_LOAD8_U(m, t1);
+    I32_STORE8(m, t0, w0);
+    t0 = l3 + 3ull;
+    t1 = l1 + 3ull;
+    w0 = I32_LOAD8_U(m, t1);
+    I32_STORE8(m, t0, w0);
+    t0 = l6 + 4ull;
+    l6 = t0;
+    w0 = l9 != l6;
+    if (w0) goto L14;
+    w0 = l12 == 0;
+    if (w0) goto L11;
+    L13:;
+    t0 = l5 + l6;
+    l3 = t0;
+    t0 = l2 + l6;
+    l6 = t0;
+    L15:;
+    w0 = I32_LOAD8_U(m, l6);
+    I32_STORE8(m, l3, w0);
+    t0 = l3 + 1ull;
+    l3 = t0;
+    t0 = l6 + 1ull;
+    l6 = t0;
+    t0 = l12 + 18446744073709551615ull;
+    l12 = t0;
+    w0 = l12 != 0ull;
+    if (w0) goto L15;
+    goto L11;
+    L12:;
+    w0 = l3 == 0;
+    if (w0) goto L11;
+    MEMORY_COPY(m, l11, l2, l3);
+    L11:;
+    t0 = l8 + 16ull;
+    t0 = I64_LOAD(m, t0);
+    w0 = t0 != 1ull;
+    if (w0) goto L16;
+    t0 = l8 + 8ull;
+    t0 = I64_LOAD(m, t0);
+    l3 = t0;
+    t0 = I64_LOAD(m, l3);
+    t1 = l3 + 32ull;
+    l3 = t1;
+    t1 = I64_LOAD(m, l3);
+    l6 = t1;
+    t0 = t0 + l6;
+    w0 = l2 != t0;
+    if (w0) goto L16;
+    t0 = l6 + l4;
+    I64_STORE(m, l3, t0);
+    L16:;
+    t0 = l8 + 24ull;
+    l3 = t0;
+    t0 = I64_LOAD(m, l3);
+    t0 = t0 + 18446744073709551615ull;
+    I64_STORE(m, l3, t0);
+    L2:;
+    l14 = 0u;
+    L1:;
+    I64_STORE(m, l0 + 8u, l11);
+    I32_STORE8(m, l0, l14);
+    t0 = l7 + 16ull;
+    m->stack_pointer = t0;
+    return;
+    TRAP(m);
+    return;
+}
+
+/* bech32_descriptor::walks::push_put_at::<#04530b1e1d33df31> */
+static u32 f107(Machine *m, u64 l0, u64 l1, u64 l2, u64 l3, u64 l4) {
     u32 l6 = 0, l7 = 0, l10 = 0, l17 = 0, l18 = 0, l19 = 0, l20 = 0, l22 = 0, w0, w1;
     u64 l5 = 0, l8 = 0, l9 = 0, l11 = 0, l12 = 0, l13 = 0, l14 = 0, l15 = 0, l16 = 0, l21 = 0, t0, t1;
     FRAME(m, 48u);
@@ -25547,11 +25709,11 @@ static u32 f105(Machine *m, u64 l0, u64 l1, u64 l2, u64 l3, u64 l4) {
     w1 = l6 & 255u;
     w0 = w0 == w1;
     if (w0) goto L30;
-    t0 = f106(m, l0, l1, l2, l9, l18);
+    t0 = f108(m, l0, l1, l2, l9, l18);
     t0 = t0 ^ l8;
     w0 = t0 != 1ull;
     if (w0) goto L30;
-    t0 = f106(m, l0, l1, l2, l9, l18);
+    t0 = f108(m, l0, l1, l2, l9, l18);
     t0 = t0 ^ l8;
     w0 = t0 != 1ull;
     if (w0) goto L30;
@@ -25576,7 +25738,7 @@ static u32 f105(Machine *m, u64 l0, u64 l1, u64 l2, u64 l3, u64 l4) {
     l3 = t1;
     w0 = t0 != l3;
     if (w0) goto L31;
-    w0 = f107(m, l4);
+    w0 = f109(m, l4);
     if (w0) goto L32;
     l18 = 1u;
     goto L0;
@@ -25644,7 +25806,7 @@ static u32 f105(Machine *m, u64 l0, u64 l1, u64 l2, u64 l3, u64 l4) {
     if (w0) goto L34;
     w0 = (u32)l3;
     l18 = w0;
-    t0 = f106(m, l0, l1, l2, l9, l18);
+    t0 = f108(m, l0, l1, l2, l9, l18);
     t0 = t0 ^ l8;
     w0 = t0 != 1ull;
     if (w0) goto L34;
@@ -25667,7 +25829,7 @@ static u32 f105(Machine *m, u64 l0, u64 l1, u64 l2, u64 l3, u64 l4) {
     l14 = t1;
     w0 = t0 != l14;
     if (w0) goto L35;
-    w0 = f107(m, l4);
+    w0 = f109(m, l4);
     if (w0) goto L36;
     l18 = 1u;
     goto L0;
@@ -25701,7 +25863,7 @@ static u32 f105(Machine *m, u64 l0, u64 l1, u64 l2, u64 l3, u64 l4) {
 }
 
 /* bech32_descriptor::places::change_of */
-static u64 f106(Machine *m, u64 l0, u64 l1, u64 l2, u64 l3, u32 l4) {
+static u64 f108(Machine *m, u64 l0, u64 l1, u64 l2, u64 l3, u32 l4) {
     u32 l9 = 0, l10 = 0, l11 = 0, l12 = 0, l13 = 0, w0, w1;
     u64 l5 = 0, l6 = 0, l7 = 0, l8 = 0, t0, t1, t2;
     t0 = l3 + 9ull;
@@ -25887,8 +26049,8 @@ static u64 f106(Machine *m, u64 l0, u64 l1, u64 l2, u64 l3, u32 l4) {
     return 0;
 }
 
-/* std_alloc::vec::Vec::grow_amortized::<#98b7ee4e6c12425b> */
-static u32 f107(Machine *m, u64 l0) {
+/* std_alloc::vec::Vec::grow_amortized::<#40e71a259b2bbb33> */
+static u32 f109(Machine *m, u64 l0) {
     u32 l3 = 0, l13 = 0, w0;
     u64 l1 = 0, l2 = 0, l4 = 0, l5 = 0, l6 = 0, l7 = 0, l8 = 0, l9 = 0, l10 = 0, l11 = 0, l12 = 0, l14 = 0, l15 = 0, t0, t1;
     FRAME(m, 32u);
@@ -26057,7 +26219,7 @@ static u32 f107(Machine *m, u64 l0) {
     goto L4;
     L5:;
     t0 = l2 + 16ull;
-    f101(m, t0, l8, l9, 8ull);
+    f102(m, t0, l8, l9, 8ull);
     t0 = I64_LOAD(m, l2 + 24u);
     l6 = t0;
     w0 = I32_LOAD8_U(m, l2 + 16u);
@@ -26193,7 +26355,7 @@ static u32 f107(Machine *m, u64 l0) {
     l13 = 1u;
     goto L18;
     L19:;
-    f101(m, l2, l5, l1, 8ull);
+    f102(m, l2, l5, l1, 8ull);
     t0 = I64_LOAD(m, l2 + 8u);
     l6 = t0;
     w0 = I32_LOAD8_U(m, l2);
@@ -26223,61 +26385,116 @@ static u32 f107(Machine *m, u64 l0) {
     return 0;
 }
 
-/* bech32_descriptor::mends::text_with::<#c86c6b5d87d403a1> */
-static void f108(Machine *m, u64 l0, u64 l1, u64 l2, u64 l3, u64 l4, u64 l5, u64 l6, u64 l7) {
-    u32 l14 = 0, w0;
-    u64 l8 = 0, l9 = 0, l10 = 0, l11 = 0, l12 = 0, l13 = 0, l15 = 0, l16 = 0, l17 = 0, l18 = 0, t0, t1, t2;
-    FRAME(m, 112u);
+/* bech32_descriptor::mends::text_with::<#04530b1e1d33df31> */
+static void f110(Machine *m, u64 l0, u64 l1, u64 l2, u64 l3, u64 l4, u64 l5, u64 l6, u64 l7) {
+    u32 l12 = 0, w0;
+    u64 l8 = 0, l9 = 0, l10 = 0, l11 = 0, l13 = 0, l14 = 0, l15 = 0, l16 = 0, l17 = 0, l18 = 0, t0, t1, t2;
+    FRAME(m, 80u);
     t0 = m->stack_pointer;
-    t0 = t0 - 112ull;
+    t0 = t0 - 80ull;
     l8 = t0;
     m->stack_pointer = l8;
-    l9 = l8;
-    I64_STORE(m, l9 + 80u, 0ull);
-    I64_STORE(m, l9 + 88u, 0ull);
-    I64_STORE(m, l9 + 96u, l1);
-    t0 = l9 + 111ull;
-    I64_STORE(m, l9 + 72u, t0);
-    t0 = l6 + l4;
-    t1 = l3 - l7;
-    l10 = t1;
-    t0 = t0 + l10;
-    l8 = t0;
-    w0 = l8 == 0;
-    if (w0) goto L3;
-    t0 = l9 + 72ull;
-    w0 = f103(m, t0, l8);
-    if (w0) goto L3;
-    t0 = I64_LOAD(m, l9 + 88u);
-    l8 = t0;
-    w0 = l8 == 0;
+    I64_STORE(m, l8 + 40u, 0ull);
+    I64_STORE(m, l8 + 32u, 0ull);
+    I64_STORE(m, l8 + 24u, 0ull);
+    I64_STORE(m, l8 + 16u, 0ull);
+    I64_STORE(m, l8 + 8u, 0ull);
+    t0 = l8 + 8ull;
+    t1 = l6 + l4;
+    t2 = l3 - l7;
+    l9 = t2;
+    t1 = t1 + l9;
+    f104(m, t0, l1, t1);
+    w0 = I32_LOAD8_U(m, l8 + 8u);
     if (w0) goto L4;
-    t0 = I64_LOAD(m, l9 + 96u);
-    l4 = t0;
-    t0 = l4 + 16ull;
-    t0 = I64_LOAD(m, t0);
-    w0 = t0 != 1ull;
+    t0 = I64_LOAD(m, l8 + 40u);
+    I64_STORE(m, l8 + 72u, t0);
+    t0 = I64_LOAD(m, l8 + 32u);
+    l10 = t0;
+    I64_STORE(m, l8 + 64u, l10);
+    t0 = I64_LOAD(m, l8 + 24u);
+    l11 = t0;
+    I64_STORE(m, l8 + 56u, l11);
+    t0 = I64_LOAD(m, l8 + 16u);
+    I64_STORE(m, l8 + 48u, t0);
+    t0 = l10 - l11;
+    w0 = l4 <= t0;
     if (w0) goto L5;
-    t0 = I64_LOAD(m, l9 + 72u);
-    t1 = l4 + 8ull;
-    t1 = I64_LOAD(m, t1);
-    l1 = t1;
-    t1 = I64_LOAD(m, l1);
-    t2 = l1 + 32ull;
-    l1 = t2;
-    t2 = I64_LOAD(m, l1);
-    l11 = t2;
-    t1 = t1 + l11;
-    w0 = t0 != t1;
-    if (w0) goto L5;
-    t0 = l11 + l8;
-    I64_STORE(m, l1, t0);
+    t0 = l8 + 48ull;
+    w0 = f105(m, t0, l4);
+    l12 = w0;
+    t0 = I64_LOAD(m, l8 + 64u);
+    l10 = t0;
+    w0 = l12 == 0;
+    if (w0) goto L3;
+    t0 = I64_LOAD(m, l8 + 56u);
+    l11 = t0;
     L5:;
-    t0 = l4 + 24ull;
+    t0 = l11 + l4;
+    l13 = t0;
+    t0 = I64_LOAD(m, l8 + 48u);
+    l14 = t0;
+    t0 = l14 + l11;
+    l15 = t0;
+    t0 = l15 - l2;
+    w0 = t0 >= l4;
+    if (w0) goto L6;
+    t0 = l4 & 3ull;
+    l16 = t0;
+    l1 = 0ull;
+    w0 = l4 < 4ull;
+    if (w0) goto L7;
+    t0 = l4 & 18446744073709551612ull;
+    l17 = t0;
+    l1 = 0ull;
+    L8:;
+    t0 = l15 + l1;
     l4 = t0;
-    t0 = I64_LOAD(m, l4);
-    t0 = t0 + 18446744073709551615ull;
-    I64_STORE(m, l4, t0);
+    t0 = l2 + l1;
+    l18 = t0;
+    w0 = I32_LOAD8_U(m, l18);
+    I32_STORE8(m, l4, w0);
+    t0 = l4 + 1ull;
+    t1 = l18 + 1ull;
+    w0 = I32_LOAD8_U(m, t1);
+    I32_STORE8(m, t0, w0);
+    t0 = l4 + 2ull;
+    t1 = l18 + 2ull;
+    w0 = I32_LOAD8_U(m, t1);
+    I32_STORE8(m, t0, w0);
+    t0 = l4 + 3ull;
+    t1 = l18 + 3ull;
+    w0 = I32_LOAD8_U(m, t1);
+    I32_STORE8(m, t0, w0);
+    t0 = l1 + 4ull;
+    l1 = t0;
+    w0 = l17 != l1;
+    if (w0) goto L8;
+    w0 = l16 == 0;
+    if (w0) goto L1;
+    L7:;
+    t0 = l2 + l1;
+    l4 = t0;
+    t0 = l11 + l1;
+    t0 = l14 + t0;
+    l1 = t0;
+    L9:;
+    w0 = I32_LOAD8_U(m, l4);
+    I32_STORE8(m, l1, w0);
+    t0 = l1 + 1ull;
+    l1 = t0;
+    t0 = l4 + 1ull;
+    l4 = t0;
+    t0 = l16 + 18446744073709551615ull;
+    l16 = t0;
+    w0 = l16 != 0ull;
+    if (w0) goto L9;
+    goto L1;
+    L6:;
+    w0 = l4 == 0;
+    if (w0) goto L1;
+    MEMORY_COPY(m, l15, l2, l4);
+    goto L1;
     L4:;
     I32_STORE8(m, l0, 1u);
     t0 = l0 + 8ull;
@@ -26290,238 +26507,191 @@ static void f108(Machine *m, u64 l0, u64 l1, u64 l2, u64 l3, u64 l4, u64 l5, u64
     I64_STORE(m, t0, 0ull);
     goto L0;
     L3:;
-    t0 = I64_LOAD(m, l9 + 96u);
-    l8 = t0;
-    I64_STORE(m, l9 + 32u, l8);
-    t0 = I64_LOAD(m, l9 + 88u);
-    l12 = t0;
-    I64_STORE(m, l9 + 24u, l12);
-    t0 = I64_LOAD(m, l9 + 80u);
-    l13 = t0;
-    I64_STORE(m, l9 + 16u, l13);
-    t0 = I64_LOAD(m, l9 + 72u);
-    l1 = t0;
-    I64_STORE(m, l9 + 8u, l1);
-    I64_STORE(m, l9 + 40u, l1);
-    I64_STORE(m, l9 + 48u, l13);
-    I64_STORE(m, l9 + 56u, l12);
-    I64_STORE(m, l9 + 64u, l8);
-    t0 = l12 - l13;
-    w0 = l4 <= t0;
+    w0 = l10 == 0;
     if (w0) goto L10;
-    t0 = l9 + 40ull;
-    w0 = f104(m, t0, l4);
-    l14 = w0;
-    t0 = I64_LOAD(m, l9 + 56u);
-    l12 = t0;
-    w0 = l14 == 0;
-    if (w0) goto L9;
-    t0 = I64_LOAD(m, l9 + 48u);
-    l13 = t0;
-    L10:;
-    t0 = l13 + l4;
-    l15 = t0;
-    t0 = I64_LOAD(m, l9 + 40u);
-    l16 = t0;
-    t0 = l16 + l13;
-    l17 = t0;
-    t0 = l17 - l2;
-    w0 = t0 >= l4;
-    if (w0) goto L12;
-    t0 = l4 & 3ull;
-    l11 = t0;
-    l8 = 0ull;
-    w0 = l4 < 4ull;
-    if (w0) goto L13;
-    t0 = l4 & 18446744073709551612ull;
-    l18 = t0;
-    l8 = 0ull;
-    L14:;
-    t0 = l17 + l8;
+    t0 = I64_LOAD(m, l8 + 72u);
     l4 = t0;
-    t0 = l2 + l8;
-    l1 = t0;
-    w0 = I32_LOAD8_U(m, l1);
-    I32_STORE8(m, l4, w0);
-    t0 = l4 + 1ull;
-    t1 = l1 + 1ull;
-    w0 = I32_LOAD8_U(m, t1);
-    I32_STORE8(m, t0, w0);
-    t0 = l4 + 2ull;
-    t1 = l1 + 2ull;
-    w0 = I32_LOAD8_U(m, t1);
-    I32_STORE8(m, t0, w0);
-    t0 = l4 + 3ull;
-    t1 = l1 + 3ull;
-    w0 = I32_LOAD8_U(m, t1);
-    I32_STORE8(m, t0, w0);
-    t0 = l8 + 4ull;
-    l8 = t0;
-    w0 = l18 != l8;
-    if (w0) goto L14;
-    w0 = l11 == 0;
+    t0 = l4 + 16ull;
+    t0 = I64_LOAD(m, t0);
+    w0 = t0 != 1ull;
     if (w0) goto L11;
-    L13:;
-    t0 = l2 + l8;
-    l4 = t0;
-    t0 = l13 + l8;
-    t0 = l16 + t0;
-    l8 = t0;
-    L15:;
-    w0 = I32_LOAD8_U(m, l4);
-    I32_STORE8(m, l8, w0);
-    t0 = l8 + 1ull;
-    l8 = t0;
-    t0 = l4 + 1ull;
-    l4 = t0;
-    t0 = l11 + 18446744073709551615ull;
-    l11 = t0;
-    w0 = l11 != 0ull;
-    if (w0) goto L15;
-    goto L11;
-    L12:;
-    w0 = l4 == 0;
+    t0 = I64_LOAD(m, l8 + 48u);
+    t1 = l4 + 8ull;
+    t1 = I64_LOAD(m, t1);
+    l1 = t1;
+    t1 = I64_LOAD(m, l1);
+    t2 = l1 + 32ull;
+    l1 = t2;
+    t2 = I64_LOAD(m, l1);
+    l18 = t2;
+    t1 = t1 + l18;
+    w0 = t0 != t1;
     if (w0) goto L11;
-    MEMORY_COPY(m, l17, l2, l4);
+    t0 = l18 + l10;
+    I64_STORE(m, l1, t0);
     L11:;
-    I64_STORE(m, l9 + 48u, l15);
-    I64_STORE(m, l9 + 56u, l12);
-    t0 = l12 - l15;
+    t0 = l4 + 24ull;
+    l4 = t0;
+    t0 = I64_LOAD(m, l4);
+    t0 = t0 + 18446744073709551615ull;
+    I64_STORE(m, l4, t0);
+    L10:;
+    I32_STORE8(m, l0, 1u);
+    t0 = l0 + 8ull;
+    I64_STORE(m, t0, 0ull);
+    t0 = l0 + 16ull;
+    I64_STORE(m, t0, 0ull);
+    t0 = l0 + 24ull;
+    I64_STORE(m, t0, 0ull);
+    t0 = l0 + 32ull;
+    I64_STORE(m, t0, 0ull);
+    goto L0;
+    TRAP(m);
+    return;
+    L1:;
+    I64_STORE(m, l8 + 56u, l13);
+    I64_STORE(m, l8 + 64u, l10);
+    t0 = l10 - l13;
     w0 = l6 <= t0;
-    if (w0) goto L16;
-    t0 = l9 + 40ull;
-    w0 = f104(m, t0, l6);
-    l14 = w0;
-    t0 = I64_LOAD(m, l9 + 56u);
-    l12 = t0;
-    w0 = l14 == 0;
-    if (w0) goto L7;
-    t0 = I64_LOAD(m, l9 + 40u);
-    l16 = t0;
-    t0 = I64_LOAD(m, l9 + 48u);
-    l15 = t0;
-    L16:;
-    t0 = l15 + l6;
+    if (w0) goto L15;
+    t0 = l8 + 48ull;
+    w0 = f105(m, t0, l6);
+    l12 = w0;
+    t0 = I64_LOAD(m, l8 + 64u);
+    l10 = t0;
+    w0 = l12 == 0;
+    if (w0) goto L14;
+    t0 = I64_LOAD(m, l8 + 48u);
+    l14 = t0;
+    t0 = I64_LOAD(m, l8 + 56u);
     l13 = t0;
-    t0 = l16 + l15;
+    L15:;
+    t0 = l13 + l6;
+    l11 = t0;
+    t0 = l14 + l13;
     l4 = t0;
     t0 = l4 - l5;
     w0 = t0 < l6;
-    if (w0) goto L18;
-    w0 = l6 == 0;
     if (w0) goto L17;
+    w0 = l6 == 0;
+    if (w0) goto L16;
     MEMORY_COPY(m, l4, l5, l6);
-    goto L17;
-    L18:;
+    goto L16;
+    L17:;
     w0 = I32_LOAD8_U(m, l5);
     I32_STORE8(m, l4, w0);
     w0 = l6 == 1ull;
-    if (w0) goto L17;
+    if (w0) goto L16;
     w0 = I32_LOAD8_U(m, l5 + 1u);
     I32_STORE8(m, l4 + 1u, w0);
-    L17:;
-    I64_STORE(m, l9 + 48u, l13);
-    I64_STORE(m, l9 + 56u, l12);
-    t0 = l12 - l13;
-    w0 = l10 <= t0;
-    if (w0) goto L19;
-    t0 = l9 + 40ull;
-    w0 = f104(m, t0, l10);
-    l14 = w0;
-    t0 = I64_LOAD(m, l9 + 56u);
-    l12 = t0;
-    w0 = l14 == 0;
-    if (w0) goto L6;
-    t0 = I64_LOAD(m, l9 + 40u);
-    l16 = t0;
-    t0 = I64_LOAD(m, l9 + 48u);
-    l13 = t0;
-    L19:;
-    t0 = l13 + l10;
-    l15 = t0;
-    t0 = l16 + l13;
-    l17 = t0;
-    t0 = l2 + l7;
-    l18 = t0;
-    t0 = l17 - l18;
-    w0 = t0 >= l10;
-    if (w0) goto L8;
-    t0 = l10 & 3ull;
+    L16:;
+    I64_STORE(m, l8 + 56u, l11);
+    I64_STORE(m, l8 + 64u, l10);
+    t0 = l10 - l11;
+    w0 = l9 <= t0;
+    if (w0) goto L18;
+    t0 = l8 + 48ull;
+    w0 = f105(m, t0, l9);
+    l12 = w0;
+    t0 = I64_LOAD(m, l8 + 64u);
+    l10 = t0;
+    w0 = l12 == 0;
+    if (w0) goto L13;
+    t0 = I64_LOAD(m, l8 + 48u);
+    l14 = t0;
+    t0 = I64_LOAD(m, l8 + 56u);
     l11 = t0;
-    l8 = 0ull;
+    L18:;
+    t0 = l11 + l9;
+    l13 = t0;
+    t0 = l14 + l11;
+    l6 = t0;
+    t0 = l2 + l7;
+    l15 = t0;
+    t0 = l6 - l15;
+    w0 = t0 >= l9;
+    if (w0) goto L19;
+    t0 = l9 & 3ull;
+    l16 = t0;
+    l1 = 0ull;
     t0 = l7 - l3;
     w0 = t0 > 18446744073709551612ull;
     if (w0) goto L20;
-    t0 = l10 & 18446744073709551612ull;
-    l6 = t0;
-    l8 = 0ull;
+    t0 = l9 & 18446744073709551612ull;
+    l17 = t0;
+    l1 = 0ull;
     L21:;
-    t0 = l17 + l8;
+    t0 = l6 + l1;
     l4 = t0;
-    t0 = l18 + l8;
-    l1 = t0;
-    w0 = I32_LOAD8_U(m, l1);
+    t0 = l15 + l1;
+    l18 = t0;
+    w0 = I32_LOAD8_U(m, l18);
     I32_STORE8(m, l4, w0);
     t0 = l4 + 1ull;
-    t1 = l1 + 1ull;
+    t1 = l18 + 1ull;
     w0 = I32_LOAD8_U(m, t1);
     I32_STORE8(m, t0, w0);
     t0 = l4 + 2ull;
-    t1 = l1 + 2ull;
+    t1 = l18 + 2ull;
     w0 = I32_LOAD8_U(m, t1);
     I32_STORE8(m, t0, w0);
     t0 = l4 + 3ull;
-    t1 = l1 + 3ull;
+    t1 = l18 + 3ull;
     w0 = I32_LOAD8_U(m, t1);
     I32_STORE8(m, t0, w0);
-    t0 = l8 + 4ull;
-    l8 = t0;
-    w0 = l6 != l8;
+    t0 = l1 + 4ull;
+    l1 = t0;
+    w0 = l17 != l1;
     if (w0) goto L21;
-    w0 = l11 == 0;
-    if (w0) goto L1;
+    w0 = l16 == 0;
+    if (w0) goto L12;
     L20:;
-    t0 = l13 + l8;
-    t0 = l16 + t0;
+    t0 = l11 + l1;
+    t0 = l14 + t0;
     l4 = t0;
-    t0 = l8 + l7;
+    t0 = l1 + l7;
     t0 = l2 + t0;
-    l8 = t0;
+    l1 = t0;
     L22:;
-    w0 = I32_LOAD8_U(m, l8);
+    w0 = I32_LOAD8_U(m, l1);
     I32_STORE8(m, l4, w0);
     t0 = l4 + 1ull;
     l4 = t0;
-    t0 = l8 + 1ull;
-    l8 = t0;
-    t0 = l11 + 18446744073709551615ull;
-    l11 = t0;
-    w0 = l11 != 0ull;
+    t0 = l1 + 1ull;
+    l1 = t0;
+    t0 = l16 + 18446744073709551615ull;
+    l16 = t0;
+    w0 = l16 != 0ull;
     if (w0) goto L22;
-    goto L1;
-    L9:;
-    w0 = l12 == 0;
+    goto L12;
+    L19:;
+    w0 = l9 == 0;
+    if (w0) goto L12;
+    MEMORY_COPY(m, l6, l15, l9);
+    goto L12;
+    L14:;
+    w0 = l10 == 0;
     if (w0) goto L23;
-    t0 = I64_LOAD(m, l9 + 64u);
+    t0 = I64_LOAD(m, l8 + 72u);
     l4 = t0;
     t0 = l4 + 16ull;
     t0 = I64_LOAD(m, t0);
     w0 = t0 != 1ull;
     if (w0) goto L24;
-    t0 = I64_LOAD(m, l9 + 40u);
+    t0 = I64_LOAD(m, l8 + 48u);
     t1 = l4 + 8ull;
     t1 = I64_LOAD(m, t1);
-    l8 = t1;
-    t1 = I64_LOAD(m, l8);
-    t2 = l8 + 32ull;
-    l8 = t2;
-    t2 = I64_LOAD(m, l8);
+    l1 = t1;
+    t1 = I64_LOAD(m, l1);
+    t2 = l1 + 32ull;
     l1 = t2;
-    t1 = t1 + l1;
+    t2 = I64_LOAD(m, l1);
+    l18 = t2;
+    t1 = t1 + l18;
     w0 = t0 != t1;
     if (w0) goto L24;
-    t0 = l1 + l12;
-    I64_STORE(m, l8, t0);
+    t0 = l18 + l10;
+    I64_STORE(m, l1, t0);
     L24:;
     t0 = l4 + 24ull;
     l4 = t0;
@@ -26539,34 +26709,29 @@ static void f108(Machine *m, u64 l0, u64 l1, u64 l2, u64 l3, u64 l4, u64 l5, u64
     t0 = l0 + 32ull;
     I64_STORE(m, t0, 0ull);
     goto L0;
-    L8:;
+    L13:;
     w0 = l10 == 0;
-    if (w0) goto L1;
-    MEMORY_COPY(m, l17, l18, l10);
-    goto L1;
-    L7:;
-    w0 = l12 == 0;
     if (w0) goto L25;
-    t0 = I64_LOAD(m, l9 + 64u);
+    t0 = I64_LOAD(m, l8 + 72u);
     l4 = t0;
     t0 = l4 + 16ull;
     t0 = I64_LOAD(m, t0);
     w0 = t0 != 1ull;
     if (w0) goto L26;
-    t0 = I64_LOAD(m, l9 + 40u);
+    t0 = I64_LOAD(m, l8 + 48u);
     t1 = l4 + 8ull;
     t1 = I64_LOAD(m, t1);
-    l8 = t1;
-    t1 = I64_LOAD(m, l8);
-    t2 = l8 + 32ull;
-    l8 = t2;
-    t2 = I64_LOAD(m, l8);
+    l1 = t1;
+    t1 = I64_LOAD(m, l1);
+    t2 = l1 + 32ull;
     l1 = t2;
-    t1 = t1 + l1;
+    t2 = I64_LOAD(m, l1);
+    l18 = t2;
+    t1 = t1 + l18;
     w0 = t0 != t1;
     if (w0) goto L26;
-    t0 = l1 + l12;
-    I64_STORE(m, l8, t0);
+    t0 = l18 + l10;
+    I64_STORE(m, l1, t0);
     L26:;
     t0 = l4 + 24ull;
     l4 = t0;
@@ -26584,69 +26749,27 @@ static void f108(Machine *m, u64 l0, u64 l1, u64 l2, u64 l3, u64 l4, u64 l5, u64
     t0 = l0 + 32ull;
     I64_STORE(m, t0, 0ull);
     goto L0;
-    L6:;
-    w0 = l12 == 0;
-    if (w0) goto L27;
-    t0 = I64_LOAD(m, l9 + 64u);
-    l4 = t0;
-    t0 = l4 + 16ull;
-    t0 = I64_LOAD(m, t0);
-    w0 = t0 != 1ull;
-    if (w0) goto L28;
-    t0 = I64_LOAD(m, l9 + 40u);
-    t1 = l4 + 8ull;
-    t1 = I64_LOAD(m, t1);
-    l8 = t1;
-    t1 = I64_LOAD(m, l8);
-    t2 = l8 + 32ull;
-    l8 = t2;
-    t2 = I64_LOAD(m, l8);
-    l1 = t2;
-    t1 = t1 + l1;
-    w0 = t0 != t1;
-    if (w0) goto L28;
-    t0 = l1 + l12;
-    I64_STORE(m, l8, t0);
-    L28:;
-    t0 = l4 + 24ull;
-    l4 = t0;
-    t0 = I64_LOAD(m, l4);
-    t0 = t0 + 18446744073709551615ull;
-    I64_STORE(m, l4, t0);
-    L27:;
-    I32_STORE8(m, l0, 1u);
-    t0 = l0 + 8ull;
-    I64_STORE(m, t0, 0ull);
-    t0 = l0 + 16ull;
-    I64_STORE(m, t0, 0ull);
-    t0 = l0 + 24ull;
-    I64_STORE(m, t0, 0ull);
-    t0 = l0 + 32ull;
-    I64_STORE(m, t0, 0ull);
-    goto L0;
-    TRAP(m);
-    return;
-    L1:;
+    L12:;
     I32_STORE8(m, l0, 0u);
     t0 = l0 + 8ull;
-    t1 = I64_LOAD(m, l9 + 40u);
+    t1 = I64_LOAD(m, l8 + 48u);
     I64_STORE(m, t0, t1);
     t0 = l0 + 16ull;
-    I64_STORE(m, t0, l15);
+    I64_STORE(m, t0, l13);
     t0 = l0 + 24ull;
-    I64_STORE(m, t0, l12);
+    I64_STORE(m, t0, l10);
     t0 = l0 + 32ull;
-    t1 = I64_LOAD(m, l9 + 64u);
+    t1 = I64_LOAD(m, l8 + 72u);
     I64_STORE(m, t0, t1);
-    I64_STORE(m, l9 + 56u, l12);
-    I64_STORE(m, l9 + 48u, l15);
+    I64_STORE(m, l8 + 64u, l10);
+    I64_STORE(m, l8 + 56u, l13);
     L0:;
-    t0 = l9 + 112ull;
+    t0 = l8 + 80ull;
     m->stack_pointer = t0;
 }
 
-/* bech32_descriptor::mends::made_text::<#c86c6b5d87d403a1> */
-static void f109(Machine *m, u64 l0, u64 l1, u64 l2, u64 l3, u64 l4) {
+/* bech32_descriptor::mends::made_text::<#04530b1e1d33df31> */
+static void f111(Machine *m, u64 l0, u64 l1, u64 l2, u64 l3, u64 l4) {
     u32 l6 = 0, w0;
     u64 l5 = 0, l7 = 0, t0, t1, t2;
     FRAME(m, 48u);
@@ -26679,7 +26802,7 @@ static void f109(Machine *m, u64 l0, u64 l1, u64 l2, u64 l3, u64 l4) {
     t0 = l5 + 8ull;
     t1 = l5 + 7ull;
     t2 = l7 + 1ull;
-    f108(m, t0, l1, l2, l3, l7, t1, 1ull, t2);
+    f110(m, t0, l1, l2, l3, l7, t1, 1ull, t2);
     goto L1;
     L4:;
     t0 = l2 + l7;
@@ -26692,18 +26815,18 @@ static void f109(Machine *m, u64 l0, u64 l1, u64 l2, u64 l3, u64 l4) {
     t0 = l5 + 8ull;
     t1 = l5 + 5ull;
     t2 = l7 + 2ull;
-    f108(m, t0, l1, l2, l3, l7, t1, 2ull, t2);
+    f110(m, t0, l1, l2, l3, l7, t1, 2ull, t2);
     goto L1;
     L3:;
     t0 = l5 + 8ull;
     t1 = l7 + 1ull;
-    f108(m, t0, l1, l2, l3, l7, PLACE(61885u), 0ull, t1);
+    f110(m, t0, l1, l2, l3, l7, PLACE(61885u), 0ull, t1);
     goto L1;
     L2:;
     I32_STORE8(m, l5 + 4u, l6);
     t0 = l5 + 8ull;
     t1 = l5 + 4ull;
-    f108(m, t0, l1, l2, l3, l7, t1, 1ull, l7);
+    f110(m, t0, l1, l2, l3, l7, t1, 1ull, l7);
     L1:;
     w0 = I32_LOAD8_U(m, l5 + 8u);
     I32_STORE8(m, l0, w0);
@@ -26726,8 +26849,8 @@ static void f109(Machine *m, u64 l0, u64 l1, u64 l2, u64 l3, u64 l4) {
     return;
 }
 
-/* std_alloc::vec::Vec::grow_amortized::<#e35f5eae3274c6a1> */
-static u32 f110(Machine *m, u64 l0) {
+/* std_alloc::vec::Vec::grow_amortized::<#1f45fe6ec7d4a231> */
+static u32 f112(Machine *m, u64 l0) {
     u32 l3 = 0, l17 = 0, w0;
     u64 l1 = 0, l2 = 0, l4 = 0, l5 = 0, l6 = 0, l7 = 0, l8 = 0, l9 = 0, l10 = 0, l11 = 0, l12 = 0, l13 = 0, l14 = 0, l15 = 0, l16 = 0, l18 = 0;
     u64 t0, t1;
@@ -26887,7 +27010,7 @@ static u32 f110(Machine *m, u64 l0) {
     goto L4;
     L5:;
     t0 = l2 + 24ull;
-    f101(m, t0, l9, l10, 8ull);
+    f102(m, t0, l9, l10, 8ull);
     t0 = I64_LOAD(m, l2 + 32u);
     l12 = t0;
     w0 = I32_LOAD8_U(m, l2 + 24u);
@@ -27017,7 +27140,7 @@ static u32 f110(Machine *m, u64 l0) {
     goto L16;
     L17:;
     t0 = l2 + 8ull;
-    f101(m, t0, l4, l1, 8ull);
+    f102(m, t0, l4, l1, 8ull);
     t0 = I64_LOAD(m, l2 + 16u);
     l12 = t0;
     w0 = I32_LOAD8_U(m, l2 + 8u);
@@ -27047,8 +27170,8 @@ static u32 f110(Machine *m, u64 l0) {
     return 0;
 }
 
-/* std_alloc::vec::Vec::grow_amortized::<#e2b26545e5465626> */
-static u32 f111(Machine *m, u64 l0) {
+/* std_alloc::vec::Vec::grow_amortized::<#46e15743f796684a> */
+static u32 f113(Machine *m, u64 l0) {
     u32 l3 = 0, l17 = 0, w0;
     u64 l1 = 0, l2 = 0, l4 = 0, l5 = 0, l6 = 0, l7 = 0, l8 = 0, l9 = 0, l10 = 0, l11 = 0, l12 = 0, l13 = 0, l14 = 0, l15 = 0, l16 = 0, t0;
     u64 t1;
@@ -27287,7 +27410,7 @@ static u32 f111(Machine *m, u64 l0) {
     goto L4;
     L5:;
     t0 = l2 + 16ull;
-    f101(m, t0, l9, l7, 8ull);
+    f102(m, t0, l9, l7, 8ull);
     t0 = I64_LOAD(m, l2 + 24u);
     l12 = t0;
     w0 = I32_LOAD8_U(m, l2 + 16u);
@@ -27488,7 +27611,7 @@ static u32 f111(Machine *m, u64 l0) {
     l17 = 1u;
     goto L20;
     L21:;
-    f101(m, l2, l4, l1, 8ull);
+    f102(m, l2, l4, l1, 8ull);
     t0 = I64_LOAD(m, l2 + 8u);
     l12 = t0;
     w0 = I32_LOAD8_U(m, l2);
@@ -27518,8 +27641,8 @@ static u32 f111(Machine *m, u64 l0) {
     return 0;
 }
 
-/* std_alloc::vec::Vec::grow_amortized::<#fb6306907b9f1d8b> */
-static u32 f112(Machine *m, u64 l0) {
+/* std_alloc::vec::Vec::grow_amortized::<#4a0c45aa6d77cd63> */
+static u32 f114(Machine *m, u64 l0) {
     u32 l3 = 0, l21 = 0, w0;
     u64 l1 = 0, l2 = 0, l4 = 0, l5 = 0, l6 = 0, l7 = 0, l8 = 0, l9 = 0, l10 = 0, l11 = 0, l12 = 0, l13 = 0, l14 = 0, l15 = 0, l16 = 0, l17 = 0;
     u64 l18 = 0, l19 = 0, l20 = 0, t0, t1;
@@ -27842,7 +27965,7 @@ static u32 f112(Machine *m, u64 l0) {
     goto L4;
     L5:;
     t0 = l2 + 16ull;
-    f101(m, t0, l9, l7, 8ull);
+    f102(m, t0, l9, l7, 8ull);
     t0 = I64_LOAD(m, l2 + 24u);
     l12 = t0;
     w0 = I32_LOAD8_U(m, l2 + 16u);
@@ -28127,7 +28250,7 @@ static u32 f112(Machine *m, u64 l0) {
     l21 = 1u;
     goto L20;
     L21:;
-    f101(m, l2, l4, l1, 8ull);
+    f102(m, l2, l4, l1, 8ull);
     t0 = I64_LOAD(m, l2 + 8u);
     l12 = t0;
     w0 = I32_LOAD8_U(m, l2);
@@ -28157,8 +28280,8 @@ static u32 f112(Machine *m, u64 l0) {
     return 0;
 }
 
-/* liquid_calls::nearest::are_few */
-static u32 f113(Machine *m, u64 l0, u64 l1, u64 l2) {
+/* bech32_more_calls::confidential::nearest::are_few */
+static u32 f115(Machine *m, u64 l0, u64 l1, u64 l2) {
     u32 l5 = 0, l9 = 0, l13 = 0, w0, w1, w2, w3;
     u64 l3 = 0, l4 = 0, l6 = 0, l7 = 0, l8 = 0, l10 = 0, l11 = 0, l12 = 0, l14 = 0, t0, t1;
     FRAME(m, 80u);
@@ -28307,8 +28430,8 @@ static u32 f113(Machine *m, u64 l0, u64 l1, u64 l2) {
     return 0;
 }
 
-/* bech32_correction::erasures::distinct_below::<#fd2815eb74988274> */
-static void f114(Machine *m, u64 l0, u64 l1, u64 l2, u64 l3, u64 l4) {
+/* bech32_correction::erasures::distinct_below::<#b032904b0acfe56f> */
+static void f116(Machine *m, u64 l0, u64 l1, u64 l2, u64 l3, u64 l4) {
     u32 l10 = 0, l14 = 0, w0, w1, w2, w3;
     u64 l5 = 0, l6 = 0, l7 = 0, l8 = 0, l9 = 0, l11 = 0, l12 = 0, l13 = 0, l15 = 0, t0, t1, t2;
     FRAME(m, 144u);
@@ -28487,7 +28610,7 @@ static void f114(Machine *m, u64 l0, u64 l1, u64 l2, u64 l3, u64 l4) {
     w0 = l11 != t0;
     if (w0) goto L19;
     t0 = l6 + 64ull;
-    w0 = f115(m, t0);
+    w0 = f117(m, t0);
     l14 = w0;
     w0 = I32_LOAD8_U(m, l6 + 64u);
     l10 = w0;
@@ -28631,8 +28754,8 @@ static void f114(Machine *m, u64 l0, u64 l1, u64 l2, u64 l3, u64 l4) {
     m->stack_pointer = t0;
 }
 
-/* smallvec::small_vec::SmallVec::reserve_one::<#2aaa7b576171e90c> */
-static u32 f115(Machine *m, u64 l0) {
+/* smallvec::small_vec::SmallVec::reserve_one::<#9385fe843cb60025> */
+static u32 f117(Machine *m, u64 l0) {
     u32 l2 = 0, l5 = 0, w0;
     u64 l1 = 0, l3 = 0, l4 = 0, l6 = 0, l7 = 0, l8 = 0, l9 = 0, l10 = 0, l11 = 0, l12 = 0, l13 = 0, l14 = 0, t0, t1, t2;
     FRAME(m, 192u);
@@ -28836,7 +28959,7 @@ static u32 f115(Machine *m, u64 l0) {
     t0 = l1 + 184ull;
     I64_STORE(m, l1 + 152u, t0);
     t0 = l1 + 152ull;
-    w0 = f116(m, t0, l6);
+    w0 = f118(m, t0, l6);
     w0 = w0 & 255u;
     if (w0) goto L15;
     t0 = l0 + 8ull;
@@ -29034,7 +29157,7 @@ static u32 f115(Machine *m, u64 l0) {
     L22:;
     t0 = l0 + 8ull;
     t1 = l6 - l3;
-    w0 = f116(m, t0, t1);
+    w0 = f118(m, t0, t1);
     w0 = w0 & 255u;
     l5 = w0;
     L3:;
@@ -29045,8 +29168,8 @@ static u32 f115(Machine *m, u64 l0) {
     return 0;
 }
 
-/* std_alloc::vec::Vec::reserve_exact::<#f379e97ef7f16191> */
-static u32 f116(Machine *m, u64 l0, u64 l1) {
+/* std_alloc::vec::Vec::reserve_exact::<#cf0c0fb7ed4e719c> */
+static u32 f118(Machine *m, u64 l0, u64 l1) {
     u32 l3 = 0, l7 = 0, l10 = 0, w0;
     u64 l2 = 0, l4 = 0, l5 = 0, l6 = 0, l8 = 0, l9 = 0, t0, t1;
     FRAME(m, 32u);
@@ -29078,7 +29201,7 @@ static u32 f116(Machine *m, u64 l0, u64 l1) {
     if (w0) goto L3;
     t0 = l2 + 16ull;
     t1 = I64_LOAD(m, l0);
-    f117(m, t0, l6, t1, l5, l4, l1);
+    f101(m, t0, l6, t1, l5, l4, l1);
     t0 = I64_LOAD(m, l2 + 24u);
     l5 = t0;
     w0 = I32_LOAD8_U(m, l2 + 16u);
@@ -29112,7 +29235,7 @@ static u32 f116(Machine *m, u64 l0, u64 l1) {
     l10 = 1u;
     goto L4;
     L5:;
-    f118(m, l2, l4, l5, 8ull);
+    f102(m, l2, l4, l5, 8ull);
     t0 = I64_LOAD(m, l2 + 8u);
     l5 = t0;
     w0 = I32_LOAD8_U(m, l2);
@@ -29151,485 +29274,7 @@ static u32 f116(Machine *m, u64 l0, u64 l1) {
     return 0;
 }
 
-/* core::alloc::RefAllocator::grow::<#cd3255740425bb00> */
-static void f117(Machine *m, u64 l0, u64 l1, u64 l2, u64 l3, u64 l4, u64 l5) {
-    u32 l12 = 0, l14 = 0, w0;
-    u64 l6 = 0, l7 = 0, l8 = 0, l9 = 0, l10 = 0, l11 = 0, l13 = 0, t0, t1;
-    FRAME(m, 16u);
-    t0 = m->stack_pointer;
-    t0 = t0 - 16ull;
-    l6 = t0;
-    m->stack_pointer = l6;
-    l7 = l6;
-    t0 = I64_LOAD(m, l1);
-    l8 = t0;
-    t0 = l8 + 16ull;
-    t0 = I64_LOAD(m, t0);
-    l6 = t0;
-    t0 = l5 - l4;
-    l1 = t0;
-    w0 = l3 > l1;
-    if (w0) goto L6;
-    w0 = l6 != 1ull;
-    if (w0) goto L6;
-    t0 = l8 + 8ull;
-    t0 = I64_LOAD(m, t0);
-    l6 = t0;
-    t0 = l6 + 32ull;
-    t0 = I64_LOAD(m, t0);
-    l9 = t0;
-    t0 = l1 << 3;
-    l1 = t0;
-    w0 = l9 < l1;
-    if (w0) goto L8;
-    t0 = I64_LOAD(m, l6);
-    l10 = t0;
-    t0 = l10 + l9;
-    w0 = l2 == t0;
-    if (w0) goto L7;
-    L8:;
-    t0 = l5 << 3;
-    l1 = t0;
-    goto L5;
-    L7:;
-    t0 = l6 + 32ull;
-    t1 = l9 - l1;
-    l6 = t1;
-    I64_STORE(m, t0, l6);
-    t0 = l10 + l6;
-    l11 = t0;
-    t0 = l11 - l2;
-    t1 = l3 << 3;
-    l6 = t1;
-    w0 = t0 >= l6;
-    if (w0) goto L9;
-    l12 = 0u;
-    w0 = l3 == 0;
-    if (w0) goto L1;
-    t0 = l3 & 3ull;
-    l1 = t0;
-    l6 = 0ull;
-    w0 = l3 < 4ull;
-    if (w0) goto L10;
-    l8 = 0ull;
-    t0 = l3 & 18446744073709551612ull;
-    t0 = 0ull - t0;
-    l13 = t0;
-    l3 = l11;
-    l6 = l2;
-    L11:;
-    t0 = I64_LOAD(m, l6);
-    I64_STORE(m, l3, t0);
-    t0 = l3 + 8ull;
-    t1 = l6 + 8ull;
-    t1 = I64_LOAD(m, t1);
-    I64_STORE(m, t0, t1);
-    t0 = l3 + 16ull;
-    t1 = l6 + 16ull;
-    t1 = I64_LOAD(m, t1);
-    I64_STORE(m, t0, t1);
-    t0 = l3 + 24ull;
-    t1 = l6 + 24ull;
-    t1 = I64_LOAD(m, t1);
-    I64_STORE(m, t0, t1);
-    t0 = l3 + 32ull;
-    l3 = t0;
-    t0 = l6 + 32ull;
-    l6 = t0;
-    t0 = l8 + 18446744073709551612ull;
-    l8 = t0;
-    w0 = l13 != l8;
-    if (w0) goto L11;
-    w0 = l1 == 0;
-    if (w0) goto L1;
-    t0 = 0ull - l8;
-    l6 = t0;
-    L10:;
-    t0 = l6 << 3;
-    l6 = t0;
-    t0 = l9 + l6;
-    t1 = l4 << 3;
-    t0 = t0 + t1;
-    t1 = l5 << 3;
-    t0 = t0 - t1;
-    t0 = l10 + t0;
-    l3 = t0;
-    t0 = l2 + l6;
-    l6 = t0;
-    L12:;
-    t0 = I64_LOAD(m, l6);
-    I64_STORE(m, l3, t0);
-    t0 = l3 + 8ull;
-    l3 = t0;
-    t0 = l6 + 8ull;
-    l6 = t0;
-    t0 = l1 + 18446744073709551615ull;
-    l1 = t0;
-    w0 = l1 != 0ull;
-    if (w0) goto L12;
-    goto L1;
-    L9:;
-    w0 = l6 == 0;
-    if (w0) goto L2;
-    MEMORY_COPY(m, l11, l2, l6);
-    goto L2;
-    L6:;
-    t0 = l5 << 3;
-    l1 = t0;
-    w0 = l6 == 0;
-    if (w0) goto L4;
-    t0 = l8 + 8ull;
-    t0 = I64_LOAD(m, t0);
-    l6 = t0;
-    t0 = l6 + 32ull;
-    t0 = I64_LOAD(m, t0);
-    l9 = t0;
-    L5:;
-    t0 = l9 & 18446744073709551608ull;
-    l5 = t0;
-    w0 = l5 < l1;
-    if (w0) goto L4;
-    t0 = l6 + 32ull;
-    t1 = l5 - l1;
-    l1 = t1;
-    I64_STORE(m, t0, l1);
-    t0 = I64_LOAD(m, l6);
-    t0 = t0 + l1;
-    l13 = t0;
-    l14 = 1u;
-    goto L3;
-    L4:;
-    f118(m, l7, l8, l1, 8ull);
-    t0 = I64_LOAD(m, l7 + 8u);
-    l13 = t0;
-    w0 = I32_LOAD8_U(m, l7);
-    l14 = w0;
-    L3:;
-    l12 = 1u;
-    l11 = 0ull;
-    w0 = l14 & 1u;
-    w0 = w0 == 0;
-    if (w0) goto L1;
-    t0 = l8 + 24ull;
-    l6 = t0;
-    t0 = I64_LOAD(m, l6);
-    l1 = t0;
-    w0 = l1 == 18446744073709551615ull;
-    if (w0) goto L1;
-    l11 = l13;
-    t0 = l1 + 1ull;
-    I64_STORE(m, l6, t0);
-    t0 = l13 - l2;
-    t1 = l3 << 3;
-    l6 = t1;
-    w0 = t0 >= l6;
-    if (w0) goto L14;
-    w0 = l3 == 0;
-    if (w0) goto L13;
-    t0 = l3 & 3ull;
-    l5 = t0;
-    l9 = 0ull;
-    w0 = l3 < 4ull;
-    if (w0) goto L15;
-    t0 = l3 & 18446744073709551612ull;
-    l10 = t0;
-    l3 = 0ull;
-    l9 = 0ull;
-    L16:;
-    t0 = l13 + l3;
-    l6 = t0;
-    t0 = l2 + l3;
-    l1 = t0;
-    t0 = I64_LOAD(m, l1);
-    I64_STORE(m, l6, t0);
-    t0 = l6 + 8ull;
-    t1 = l1 + 8ull;
-    t1 = I64_LOAD(m, t1);
-    I64_STORE(m, t0, t1);
-    t0 = l6 + 16ull;
-    t1 = l1 + 16ull;
-    t1 = I64_LOAD(m, t1);
-    I64_STORE(m, t0, t1);
-    t0 = l6 + 24ull;
-    t1 = l1 + 24ull;
-    t1 = I64_LOAD(m, t1);
-    I64_STORE(m, t0, t1);
-    t0 = l3 + 32ull;
-    l3 = t0;
-    t0 = l9 + 4ull;
-    l9 = t0;
-    w0 = l10 != l9;
-    if (w0) goto L16;
-    w0 = l5 == 0;
-    if (w0) goto L13;
-    L15:;
-    t0 = l9 << 3;
-    l6 = t0;
-    t0 = l13 + l6;
-    l3 = t0;
-    t0 = l2 + l6;
-    l6 = t0;
-    L17:;
-    t0 = I64_LOAD(m, l6);
-    I64_STORE(m, l3, t0);
-    t0 = l3 + 8ull;
-    l3 = t0;
-    t0 = l6 + 8ull;
-    l6 = t0;
-    t0 = l5 + 18446744073709551615ull;
-    l5 = t0;
-    w0 = l5 != 0ull;
-    if (w0) goto L17;
-    goto L13;
-    L14:;
-    w0 = l6 == 0;
-    if (w0) goto L13;
-    MEMORY_COPY(m, l11, l2, l6);
-    L13:;
-    t0 = l8 + 16ull;
-    t0 = I64_LOAD(m, t0);
-    w0 = t0 != 1ull;
-    if (w0) goto L18;
-    t0 = l8 + 8ull;
-    t0 = I64_LOAD(m, t0);
-    l3 = t0;
-    t0 = I64_LOAD(m, l3);
-    t1 = l3 + 32ull;
-    l3 = t1;
-    t1 = I64_LOAD(m, l3);
-    l6 = t1;
-    t0 = t0 + l6;
-    w0 = l2 != t0;
-    if (w0) goto L18;
-    t0 = l4 << 3;
-    t0 = l6 + t0;
-    I64_STORE(m, l3, t0);
-    L18:;
-    t0 = l8 + 24ull;
-    l3 = t0;
-    t0 = I64_LOAD(m, l3);
-    t0 = t0 + 18446744073709551615ull;
-    I64_STORE(m, l3, t0);
-    L2:;
-    l12 = 0u;
-    L1:;
-    I64_STORE(m, l0 + 8u, l11);
-    I32_STORE8(m, l0, l12);
-    t0 = l7 + 16ull;
-    m->stack_pointer = t0;
-    return;
-    TRAP(m);
-    return;
-}
-
-/* bumpalo::bump::Bump::alloc_layout_slow::<#75d297d26e189d94> */
-static void f118(Machine *m, u64 l0, u64 l1, u64 l2, u64 l3) {
-    u32 l7 = 0, l8 = 0, l9 = 0, l17 = 0, w0, w1, w2;
-    u64 l4 = 0, l5 = 0, l6 = 0, l10 = 0, l11 = 0, l12 = 0, l13 = 0, l14 = 0, l15 = 0, l16 = 0, l18 = 0, l19 = 0, l20 = 0, t0, t1;
-    l4 = 0ull;
-    l5 = 0ull;
-    l6 = 0ull;
-    t0 = l1 + 16ull;
-    t0 = I64_LOAD(m, t0);
-    w0 = t0 == 0;
-    if (w0) goto L1;
-    t0 = l1 + 8ull;
-    t0 = I64_LOAD(m, t0);
-    l6 = t0;
-    t0 = l6 + 8ull;
-    t0 = I64_LOAD(m, t0);
-    t0 = t0 + 18446744073709551568ull;
-    l5 = t0;
-    t0 = l6 + 40ull;
-    t0 = I64_LOAD(m, t0);
-    l6 = t0;
-    L1:;
-    l7 = 0u;
-    l8 = 0u;
-    t0 = l1 + 32ull;
-    w0 = I32_LOAD8_U(m, t0);
-    l9 = w0;
-    w0 = l9 != 1u;
-    if (w0) goto L2;
-    t0 = l1 + 40ull;
-    t0 = I64_LOAD(m, t0);
-    l10 = t0;
-    t0 = l10 - l6;
-    l11 = t0;
-    w0 = l11 > l10;
-    t0 = w0 ? 0ull : l11;
-    l4 = t0;
-    w0 = l6 == 0;
-    w1 = l2 < l10;
-    w2 = l10 < 448ull;
-    w1 = w1 & w2;
-    w0 = w0 & w1;
-    l8 = w0;
-    L2:;
-    l12 = 0ull;
-    w0 = SIGNED_64(l5) < SIGNED_64(0ull);
-    if (w0) goto L3;
-    l12 = 0ull;
-    w0 = l2 > 4611686018427387904ull;
-    if (w0) goto L3;
-    t0 = l2 & 15ull;
-    l6 = t0;
-    t0 = 16ull - l6;
-    w0 = l6 == 0;
-    t0 = w0 ? 0ull : t0;
-    t0 = t0 + l2;
-    l11 = t0;
-    w0 = l2 > 448ull;
-    t0 = w0 ? l2 : 448ull;
-    l10 = t0;
-    t0 = l5 << 1;
-    l5 = t0;
-    w0 = l10 > l5;
-    t0 = w0 ? l10 : l5;
-    l5 = t0;
-    L6:;
-    w0 = l5 > 4611686018427387904ull;
-    if (w0) goto L7;
-    w0 = l11 > l5;
-    t0 = w0 ? l11 : l5;
-    l6 = t0;
-    w0 = l6 > 16ull;
-    t0 = w0 ? l6 : 16ull;
-    l13 = t0;
-    w0 = l6 > 4095ull;
-    if (w0) goto L9;
-    t0 = l13 + 63ull;
-    t0 = I64_CLZ(t0);
-    t0 = 0ull - t0;
-    t0 = 1ull << (t0 & 63);
-    l6 = t0;
-    goto L8;
-    L9:;
-    t0 = l13 + 64ull;
-    l6 = t0;
-    t0 = l6 & 4095ull;
-    l13 = t0;
-    t0 = 4096ull - l13;
-    w0 = l13 == 0;
-    t0 = w0 ? 0ull : t0;
-    t0 = t0 + l6;
-    l6 = t0;
-    L8:;
-    t0 = l6 + 18446744073709551552ull;
-    l13 = t0;
-    w0 = l9 & 1u;
-    w0 = w0 == 0;
-    if (w0) goto L11;
-    w0 = l4 < l13;
-    if (w0) goto L10;
-    L11:;
-    w0 = l6 < 16ull;
-    if (w0) goto L10;
-    t0 = l6 + 18446744073709551600ull;
-    l14 = t0;
-    t0 = I64_LOAD(m, l1);
-    l15 = t0;
-    t0 = l15 + 24ull;
-    t0 = I64_LOAD(m, t0);
-    t0 = t0 & 18446744073709551600ull;
-    w0 = l14 > t0;
-    if (w0) goto L10;
-    l16 = 0ull;
-    I64_STORE(m, l15 + 16u, 0ull);
-    w0 = I32_LOAD8_U(m, l15);
-    l17 = w0;
-    I64_STORE(m, l15, 0ull);
-    t0 = l15 + 8ull;
-    l15 = t0;
-    t0 = I64_LOAD(m, l15);
-    l18 = t0;
-    I64_STORE(m, l15, 0ull);
-    w0 = l17 != 1u;
-    if (w0) goto L10;
-    t0 = l1 + 8ull;
-    t0 = I64_LOAD(m, t0);
-    l15 = t0;
-    t0 = l1 + 16ull;
-    l19 = t0;
-    t0 = I64_LOAD(m, l19);
-    l20 = t0;
-    w0 = l20 == 0;
-    if (w0) goto L4;
-    t0 = l15 + 40ull;
-    t0 = I64_LOAD(m, t0);
-    l16 = t0;
-    t0 = 63ull - l6;
-    w0 = l16 <= t0;
-    if (w0) goto L4;
-    t0 = I64_LOAD(m, l1);
-    l6 = t0;
-    I64_STORE(m, l6, 1ull);
-    t0 = l6 + 8ull;
-    I64_STORE(m, t0, l18);
-    t0 = l6 + 16ull;
-    t1 = l6 + 24ull;
-    t1 = I64_LOAD(m, t1);
-    I64_STORE(m, t0, t1);
-    L10:;
-    w0 = l5 == 0ull;
-    if (w0) goto L5;
-    L7:;
-    t0 = l5 >> 1;
-    l5 = t0;
-    w0 = l10 <= l5;
-    if (w0) goto L6;
-    w0 = l2 <= l5;
-    w0 = l8 & w0;
-    w0 = w0 == 0;
-    if (w0) goto L3;
-    goto L6;
-    L5:;
-    l12 = 0ull;
-    goto L3;
-    L4:;
-    t0 = l18 + l13;
-    l5 = t0;
-    t0 = l16 + l13;
-    I64_STORE(m, l5 + 40u, t0);
-    I64_STORE(m, l5 + 24u, l15);
-    I64_STORE(m, l5 + 16u, 16ull);
-    I64_STORE(m, l5 + 8u, l14);
-    I64_STORE(m, l5, l18);
-    t0 = l5 + 32ull;
-    l10 = t0;
-    I64_STORE(m, l10, l13);
-    t0 = l20 + 1ull;
-    l6 = t0;
-    I64_STORE(m, l19, l6);
-    t0 = l1 + 8ull;
-    I64_STORE(m, t0, l5);
-    l12 = 0ull;
-    w0 = l6 == 0;
-    if (w0) goto L3;
-    l12 = 0ull;
-    t0 = I64_LOAD(m, l10);
-    t1 = 0ull - l3;
-    t0 = t0 & t1;
-    l6 = t0;
-    w0 = l6 < l2;
-    if (w0) goto L3;
-    t0 = l5 + 32ull;
-    t1 = l6 - l2;
-    l6 = t1;
-    I64_STORE(m, t0, l6);
-    t0 = I64_LOAD(m, l5);
-    t0 = t0 + l6;
-    l12 = t0;
-    l7 = 1u;
-    L3:;
-    I64_STORE(m, l0 + 8u, l12);
-    I32_STORE8(m, l0, l7);
-    return;
-    TRAP(m);
-    return;
-}
-
-/* bech32_bch::terms::locators_of::<#77421243927a5179> */
+/* bech32_bch::terms::locators_of::<#5420c21ea23907c2> */
 static void f119(Machine *m, u64 l0, u64 l1, u32 l2, u64 l3, u64 l4) {
     u32 l8 = 0, l9 = 0, l10 = 0, l11 = 0, l12 = 0, l13 = 0, l14 = 0, w0, w1;
     u64 l5 = 0, l6 = 0, l7 = 0, t0, t1, t2;
@@ -29921,7 +29566,7 @@ static void f119(Machine *m, u64 l0, u64 l1, u32 l2, u64 l3, u64 l4) {
     return;
 }
 
-/* smallvec::small_vec::SmallVec::reserve_one::<#44926b8807dfb440> */
+/* smallvec::small_vec::SmallVec::reserve_one::<#55b4b26deee3c86f> */
 static u32 f120(Machine *m, u64 l0) {
     u32 l3 = 0, l5 = 0, w0;
     u64 l1 = 0, l2 = 0, l4 = 0, l6 = 0, l7 = 0, l8 = 0, l9 = 0, l10 = 0, l11 = 0, l12 = 0, l13 = 0, t0, t1, t2;
@@ -30290,7 +29935,7 @@ static u32 f120(Machine *m, u64 l0) {
     return 0;
 }
 
-/* std_alloc::vec::Vec::reserve_exact::<#b20e0b80aaf4cc6c> */
+/* std_alloc::vec::Vec::reserve_exact::<#80877d0373642c01> */
 static u32 f121(Machine *m, u64 l0, u64 l1) {
     u32 l3 = 0, l14 = 0, w0;
     u64 l2 = 0, l4 = 0, l5 = 0, l6 = 0, l7 = 0, l8 = 0, l9 = 0, l10 = 0, l11 = 0, l12 = 0, l13 = 0, t0, t1;
@@ -30455,7 +30100,7 @@ static u32 f121(Machine *m, u64 l0, u64 l1) {
     goto L4;
     L5:;
     t0 = l2 + 16ull;
-    f118(m, t0, l8, l9, 1ull);
+    f102(m, t0, l8, l9, 1ull);
     t0 = I64_LOAD(m, l2 + 24u);
     l13 = t0;
     w0 = I32_LOAD8_U(m, l2 + 16u);
@@ -30593,7 +30238,7 @@ static u32 f121(Machine *m, u64 l0, u64 l1) {
     l14 = 1u;
     goto L20;
     L21:;
-    f118(m, l2, l5, l1, 1ull);
+    f102(m, l2, l5, l1, 1ull);
     t0 = I64_LOAD(m, l2 + 8u);
     l13 = t0;
     w0 = I32_LOAD8_U(m, l2);
@@ -30624,7 +30269,7 @@ static u32 f121(Machine *m, u64 l0, u64 l1) {
     return 0;
 }
 
-/* std_alloc::vec::Vec::drop::<#afbf2489de51716a> */
+/* std_alloc::vec::Vec::drop::<#5046b4b3ea44ec99> */
 static void f122(Machine *m, u64 l0) {
     u32 w0;
     u64 l1 = 0, l2 = 0, l3 = 0, t0, t1, t2;
@@ -30665,7 +30310,7 @@ static void f122(Machine *m, u64 l0) {
     return;
 }
 
-/* bech32_correction::corrector::Corrector::listing::<#288525196b04e85e> */
+/* bech32_correction::corrector::Corrector::listing::<#6d908c9e5689035d> */
 static void f123(Machine *m, u64 l0, u64 l1) {
     u32 l3 = 0, l6 = 0, l8 = 0, w0;
     u64 l2 = 0, l4 = 0, l5 = 0, l7 = 0, l9 = 0, l10 = 0, t0, t1, t2;
@@ -31176,7 +30821,7 @@ static void f124(Machine *m, u64 l0, u64 l1, u64 l2, u64 l3) {
     m->stack_pointer = t0;
 }
 
-/* bech32_finders::erased::listing_of::<#fd2815eb74988274> */
+/* bech32_finders::erased::listing_of::<#b032904b0acfe56f> */
 static void f125(Machine *m, u64 l0, u64 l1, u64 l2, u64 l3, u64 l4) {
     u32 l7 = 0, l9 = 0, l10 = 0, w0;
     u64 l5 = 0, l6 = 0, l8 = 0, l11 = 0, t0, t1, t2;
@@ -31315,7 +30960,7 @@ static void f125(Machine *m, u64 l0, u64 l1, u64 l2, u64 l3, u64 l4) {
     return;
 }
 
-/* bech32_finders::correction::correct_by_roots::<#288525196b04e85e> */
+/* bech32_finders::correction::correct_by_roots::<#6d908c9e5689035d> */
 static void f126(Machine *m, u64 l0, u64 l1, u64 l2, u64 l3, u64 l4, u64 l5) {
     u32 l8 = 0, l10 = 0, l12 = 0, l14 = 0, l17 = 0, l18 = 0, l19 = 0, l20 = 0, l21 = 0, l26 = 0, l28 = 0, l33 = 0, l36 = 0, l38 = 0, l40 = 0, w0;
     u32 w1, w2, w3;
@@ -32687,7 +32332,7 @@ static void f126(Machine *m, u64 l0, u64 l1, u64 l2, u64 l3, u64 l4, u64 l5) {
     w0 = l31 != t0;
     if (w0) goto L84;
     t0 = l7 + 1704ull;
-    w0 = f115(m, t0);
+    w0 = f117(m, t0);
     w0 = w0 & 255u;
     w0 = w0 == 0;
     if (w0) goto L85;
@@ -33108,7 +32753,7 @@ static void f126(Machine *m, u64 l0, u64 l1, u64 l2, u64 l3, u64 l4, u64 l5) {
     w0 = t0 != t1;
     if (w0) goto L114;
     t0 = l7 + 1704ull;
-    w0 = f115(m, t0);
+    w0 = f117(m, t0);
     w0 = w0 & 255u;
     if (w0) goto L102;
     w0 = I32_LOAD8_U(m, l7 + 1704u);
@@ -33161,7 +32806,7 @@ static void f126(Machine *m, u64 l0, u64 l1, u64 l2, u64 l3, u64 l4, u64 l5) {
     w0 = t0 != t1;
     if (w0) goto L118;
     t0 = l7 + 1704ull;
-    w0 = f115(m, t0);
+    w0 = f117(m, t0);
     w0 = w0 & 255u;
     if (w0) goto L102;
     w0 = I32_LOAD8_U(m, l7 + 1704u);
@@ -33572,7 +33217,7 @@ static void f126(Machine *m, u64 l0, u64 l1, u64 l2, u64 l3, u64 l4, u64 l5) {
     w0 = t0 != t1;
     if (w0) goto L141;
     t0 = l7 + 1880ull;
-    w0 = f115(m, t0);
+    w0 = f117(m, t0);
     l10 = w0;
     w0 = I32_LOAD8_U(m, l7 + 1880u);
     l8 = w0;
@@ -34633,7 +34278,7 @@ static void f126(Machine *m, u64 l0, u64 l1, u64 l2, u64 l3, u64 l4, u64 l5) {
     m->stack_pointer = t0;
 }
 
-/* smallvec::small_vec::SmallVec::reserve_one::<#83a40ecde4767550> */
+/* smallvec::small_vec::SmallVec::reserve_one::<#e5da49f2fea2054b> */
 static u32 f127(Machine *m, u64 l0) {
     u32 l3 = 0, l5 = 0, w0;
     u64 l1 = 0, l2 = 0, l4 = 0, l6 = 0, l7 = 0, l8 = 0, l9 = 0, l10 = 0, l11 = 0, l12 = 0, l13 = 0, l14 = 0, l15 = 0, l16 = 0, t0, t1;
@@ -35097,7 +34742,7 @@ static u32 f127(Machine *m, u64 l0) {
     return 0;
 }
 
-/* std_alloc::vec::Vec::reserve_exact::<#bb125e77764034c0> */
+/* std_alloc::vec::Vec::reserve_exact::<#542ce7989839f735> */
 static u32 f128(Machine *m, u64 l0, u64 l1) {
     u32 l3 = 0, l15 = 0, w0;
     u64 l2 = 0, l4 = 0, l5 = 0, l6 = 0, l7 = 0, l8 = 0, l9 = 0, l10 = 0, l11 = 0, l12 = 0, l13 = 0, l14 = 0, t0, t1;
@@ -35285,7 +34930,7 @@ static u32 f128(Machine *m, u64 l0, u64 l1) {
     goto L4;
     L5:;
     t0 = l2 + 16ull;
-    f118(m, t0, l8, l9, 8ull);
+    f102(m, t0, l8, l9, 8ull);
     t0 = I64_LOAD(m, l2 + 24u);
     l13 = t0;
     w0 = I32_LOAD8_U(m, l2 + 16u);
@@ -35445,7 +35090,7 @@ static u32 f128(Machine *m, u64 l0, u64 l1) {
     l15 = 1u;
     goto L20;
     L21:;
-    f118(m, l2, l5, l1, 8ull);
+    f102(m, l2, l5, l1, 8ull);
     t0 = I64_LOAD(m, l2 + 8u);
     l13 = t0;
     w0 = I32_LOAD8_U(m, l2);
@@ -35476,7 +35121,7 @@ static u32 f128(Machine *m, u64 l0, u64 l1) {
     return 0;
 }
 
-/* bech32_bch::terms::without_terms::<#77421243927a5179> */
+/* bech32_bch::terms::without_terms::<#5420c21ea23907c2> */
 static void f129(Machine *m, u64 l0, u64 l1, u64 l2, u64 l3, u64 l4, u64 l5) {
     u32 l9 = 0, l10 = 0, l11 = 0, l15 = 0, l18 = 0, l19 = 0, l20 = 0, l21 = 0, l22 = 0, w0, w1;
     u64 l6 = 0, l7 = 0, l8 = 0, l12 = 0, l13 = 0, l14 = 0, l16 = 0, l17 = 0, t0, t1;
@@ -35688,7 +35333,7 @@ static void f129(Machine *m, u64 l0, u64 l1, u64 l2, u64 l3, u64 l4, u64 l5) {
     m->stack_pointer = t0;
 }
 
-/* bech32_poly::fieldvec::FieldVec::from_slice::<#dd54eea919bb0bb4> */
+/* bech32_poly::fieldvec::FieldVec::from_slice::<#29bf1eaa447e2b2f> */
 static void f130(Machine *m, u64 l0, u64 l1, u64 l2, u64 l3) {
     u32 l6 = 0, l7 = 0, l8 = 0, w0;
     u64 l4 = 0, l5 = 0, t0, t1, t2;
@@ -35829,7 +35474,7 @@ static void f130(Machine *m, u64 l0, u64 l1, u64 l2, u64 l3) {
     return;
 }
 
-/* bech32_bch::short_vec::ShortVec::from_slice::<#d2a1ffa8cc102f3d> */
+/* bech32_bch::short_vec::ShortVec::from_slice::<#e90f69f09aef5496> */
 static void f131(Machine *m, u64 l0, u64 l1, u64 l2, u64 l3) {
     u32 l6 = 0, l7 = 0, w0;
     u64 l4 = 0, l5 = 0, l8 = 0, t0, t1, t2;
@@ -35861,7 +35506,7 @@ static void f131(Machine *m, u64 l0, u64 l1, u64 l2, u64 l3) {
     t1 = l6 ? t1 : 7ull;
     w0 = t0 != t1;
     if (w0) goto L6;
-    w0 = f115(m, l4);
+    w0 = f117(m, l4);
     l7 = w0;
     w0 = I32_LOAD8_U(m, l4);
     l6 = w0;
@@ -35950,7 +35595,7 @@ static void f131(Machine *m, u64 l0, u64 l1, u64 l2, u64 l3) {
     return;
 }
 
-/* std_alloc::vec::Vec::drop::<#31868b930410ff41> */
+/* std_alloc::vec::Vec::drop::<#0bdabfa4c2c6ec76> */
 static void f132(Machine *m, u64 l0) {
     u32 w0;
     u64 l1 = 0, l2 = 0, l3 = 0, t0, t1, t2;
@@ -36223,392 +35868,413 @@ static u64 f133(Machine *m, u64 l0, u64 l1) {
     return 0;
 }
 
-/* std_alloc::vec::Vec::grow_amortized::<#7d008d7bff85f08a> */
-static u32 f134(Machine *m, u64 l0) {
-    u32 l2 = 0, l8 = 0, l10 = 0, w0;
-    u64 l1 = 0, l3 = 0, l4 = 0, l5 = 0, l6 = 0, l7 = 0, l9 = 0, t0, t1;
-    FRAME(m, 32u);
-    t0 = m->stack_pointer;
-    t0 = t0 - 32ull;
+/* std_alloc::vec::Vec::drop::<#8a6a6a973a3ff14a> */
+static void f134(Machine *m, u64 l0) {
+    u32 w0;
+    u64 l1 = 0, l2 = 0, l3 = 0, t0, t1, t2;
+    t0 = I64_LOAD(m, l0 + 16u);
     l1 = t0;
-    m->stack_pointer = l1;
-    l2 = 0u;
+    w0 = l1 == 0;
+    if (w0) goto L1;
+    t0 = I64_LOAD(m, l0 + 24u);
+    l2 = t0;
+    t0 = l2 + 16ull;
+    t0 = I64_LOAD(m, t0);
+    w0 = t0 != 1ull;
+    if (w0) goto L2;
+    t0 = I64_LOAD(m, l0);
+    t1 = l2 + 8ull;
+    t1 = I64_LOAD(m, t1);
+    l0 = t1;
+    t1 = I64_LOAD(m, l0);
+    t2 = l0 + 32ull;
+    l0 = t2;
+    t2 = I64_LOAD(m, l0);
+    l3 = t2;
+    t1 = t1 + l3;
+    w0 = t0 != t1;
+    if (w0) goto L2;
+    t0 = l1 << 4;
+    t0 = l3 + t0;
+    I64_STORE(m, l0, t0);
+    L2:;
+    t0 = l2 + 24ull;
+    l0 = t0;
+    t0 = I64_LOAD(m, l0);
+    t0 = t0 + 18446744073709551615ull;
+    I64_STORE(m, l0, t0);
+    L1:;
+    return;
+    TRAP(m);
+    return;
+}
+
+/* std_alloc::vec::Vec::grow_amortized::<#bd032288629e45ed> */
+static u32 f135(Machine *m, u64 l0) {
+    u32 l5 = 0, w0;
+    u64 l2 = 0, l3 = 0, l4 = 0, t0;
     t0 = l0 + 8ull;
     t0 = I64_LOAD(m, t0);
-    l3 = t0;
-    w0 = l3 == 18446744073709551615ull;
+    l2 = t0;
+    w0 = l2 != 18446744073709551615ull;
     if (w0) goto L1;
-    w0 = l3 > 3ull;
-    t0 = w0 ? l3 : 3ull;
-    t0 = t0 + 1ull;
-    l4 = t0;
-    t0 = l0 + 16ull;
-    t0 = I64_LOAD(m, t0);
-    l5 = t0;
-    t0 = l5 << 1;
-    l6 = t0;
-    w0 = l4 > l6;
-    t0 = w0 ? l4 : l6;
-    l6 = t0;
-    w0 = l5 < 4611686018427387904ull;
-    t0 = w0 ? l6 : l4;
-    l4 = t0;
-    w0 = l4 > 67818912035696880ull;
-    if (w0) goto L1;
-    t0 = l0 + 24ull;
-    l7 = t0;
-    w0 = l5 == 0;
-    if (w0) goto L3;
-    t0 = l1 + 16ull;
-    t1 = I64_LOAD(m, l0);
-    f135(m, t0, l7, t1, l3, l5, l4);
-    t0 = I64_LOAD(m, l1 + 24u);
-    l3 = t0;
-    w0 = I32_LOAD8_U(m, l1 + 16u);
-    l8 = w0;
-    goto L2;
-    L3:;
-    t0 = l6 * 136ull;
-    l3 = t0;
-    t0 = I64_LOAD(m, l7);
-    l5 = t0;
-    t0 = l5 + 16ull;
-    t0 = I64_LOAD(m, t0);
-    w0 = t0 == 0;
-    if (w0) goto L5;
-    t0 = l5 + 8ull;
-    t0 = I64_LOAD(m, t0);
-    l6 = t0;
-    t0 = l6 + 32ull;
-    l7 = t0;
-    t0 = I64_LOAD(m, l7);
-    t0 = t0 & 18446744073709551608ull;
-    l9 = t0;
-    w0 = l9 < l3;
-    if (w0) goto L5;
-    t0 = l9 - l3;
-    l3 = t0;
-    I64_STORE(m, l7, l3);
-    t0 = I64_LOAD(m, l6);
-    t0 = t0 + l3;
-    l3 = t0;
-    l10 = 1u;
-    goto L4;
-    L5:;
-    f118(m, l1, l5, l3, 8ull);
-    t0 = I64_LOAD(m, l1 + 8u);
-    l3 = t0;
-    w0 = I32_LOAD8_U(m, l1);
-    l10 = w0;
-    L4:;
-    l8 = 1u;
-    w0 = l10 & 1u;
-    if (w0) goto L6;
-    l3 = 0ull;
-    goto L2;
-    L6:;
-    t0 = l5 + 24ull;
-    l5 = t0;
-    t0 = I64_LOAD(m, l5);
-    l6 = t0;
-    w0 = l6 != 18446744073709551615ull;
-    if (w0) goto L7;
-    l3 = 0ull;
-    goto L2;
-    L7:;
-    t0 = l6 + 1ull;
-    I64_STORE(m, l5, t0);
-    l8 = 0u;
-    L2:;
-    w0 = l8 & 255u;
-    if (w0) goto L1;
-    t0 = l0 + 16ull;
-    I64_STORE(m, t0, l4);
-    I64_STORE(m, l0, l3);
-    l2 = 1u;
+    return 0u;
     L1:;
-    t0 = l1 + 32ull;
-    m->stack_pointer = t0;
-    return l2;
+    w0 = l2 > 3ull;
+    t0 = w0 ? l2 : 3ull;
+    t0 = t0 + 1ull;
+    l2 = t0;
+    t0 = l0 + 16ull;
+    t0 = I64_LOAD(m, t0);
+    l3 = t0;
+    t0 = l3 << 1;
+    l4 = t0;
+    w0 = l2 > l4;
+    t0 = w0 ? l2 : l4;
+    w0 = l3 < 4611686018427387904ull;
+    t0 = w0 ? t0 : l2;
+    w0 = f136(m, l0, t0);
+    l5 = w0;
+    return l5;
     TRAP(m);
     return 0;
 }
 
-/* core::alloc::RefAllocator::grow::<#ceb67e3f532bac30> */
-static void f135(Machine *m, u64 l0, u64 l1, u64 l2, u64 l3, u64 l4, u64 l5) {
-    u32 l12 = 0, l13 = 0, w0;
-    u64 l6 = 0, l7 = 0, l8 = 0, l9 = 0, l10 = 0, l11 = 0, l14 = 0, l15 = 0, t0, t1;
-    FRAME(m, 144u);
+/* std_alloc::vec::Vec::move_to::<#bd032288629e45ed> */
+static u32 f136(Machine *m, u64 l0, u64 l1) {
+    u32 l3 = 0, l13 = 0, w0;
+    u64 l2 = 0, l4 = 0, l5 = 0, l6 = 0, l7 = 0, l8 = 0, l9 = 0, l10 = 0, l11 = 0, l12 = 0, l14 = 0, l15 = 0, t0, t1;
+    FRAME(m, 160u);
     t0 = m->stack_pointer;
-    t0 = t0 - 144ull;
+    t0 = t0 - 160ull;
+    l2 = t0;
+    m->stack_pointer = l2;
+    l3 = 0u;
+    w0 = l1 >= 67818912035696881ull;
+    if (w0) goto L1;
+    t0 = l0 + 16ull;
+    t0 = I64_LOAD(m, t0);
+    l4 = t0;
+    w0 = l4 == 0;
+    if (w0) goto L3;
+    t0 = I64_LOAD(m, l0);
+    l5 = t0;
+    t0 = l0 + 24ull;
+    t0 = I64_LOAD(m, t0);
     l6 = t0;
-    m->stack_pointer = l6;
-    t0 = I64_LOAD(m, l1);
+    t0 = l6 + 16ull;
+    t0 = I64_LOAD(m, t0);
     l7 = t0;
-    t0 = l7 + 16ull;
+    t0 = l0 + 8ull;
     t0 = I64_LOAD(m, t0);
-    l1 = t0;
-    t0 = l5 - l4;
     l8 = t0;
-    w0 = l3 > l8;
-    if (w0) goto L6;
-    w0 = l1 != 1ull;
-    if (w0) goto L6;
-    t0 = l7 + 8ull;
-    t0 = I64_LOAD(m, t0);
-    l1 = t0;
-    t0 = l1 + 32ull;
-    t0 = I64_LOAD(m, t0);
+    t0 = l1 - l4;
     l9 = t0;
-    t0 = l8 * 136ull;
-    l8 = t0;
-    w0 = l9 < l8;
-    if (w0) goto L8;
-    t0 = I64_LOAD(m, l1);
-    l10 = t0;
-    t0 = l10 + l9;
-    w0 = l2 == t0;
+    w0 = l8 > l9;
     if (w0) goto L7;
-    L8:;
-    t0 = l5 * 136ull;
-    l5 = t0;
-    goto L5;
-    L7:;
-    t0 = l1 + 32ull;
-    t1 = l9 - l8;
-    l1 = t1;
-    I64_STORE(m, t0, l1);
-    t0 = l10 + l1;
-    l9 = t0;
-    t0 = l9 - l2;
-    t1 = l3 * 136ull;
-    l1 = t1;
-    w0 = t0 >= l1;
-    if (w0) goto L9;
-    w0 = l3 == 0;
-    if (w0) goto L2;
-    l1 = 0ull;
-    w0 = l3 == 1ull;
-    if (w0) goto L10;
-    t0 = l3 & 1ull;
-    l11 = t0;
-    l7 = 0ull;
-    t0 = l3 & 18446744073709551614ull;
-    t0 = 0ull - t0;
-    l10 = t0;
-    l3 = 0ull;
-    L11:;
-    t0 = l2 + l3;
-    l1 = t0;
-    t0 = I64_LOAD8_U(m, l1);
-    l8 = t0;
-    t0 = l6 + 16ull;
-    t1 = l1 + 8ull;
-    MEMORY_COPY(m, t0, t1, 128ull);
-    t0 = l9 + l3;
-    l5 = t0;
-    I64_STORE(m, l5, l8);
-    t0 = l5 + 8ull;
-    t1 = l6 + 16ull;
-    MEMORY_COPY(m, t0, t1, 128ull);
-    t0 = l1 + 136ull;
-    t0 = I64_LOAD8_U(m, t0);
-    l8 = t0;
-    t0 = l6 + 16ull;
-    t1 = l1 + 144ull;
-    MEMORY_COPY(m, t0, t1, 128ull);
-    t0 = l5 + 136ull;
-    I64_STORE(m, t0, l8);
-    t0 = l5 + 144ull;
-    t1 = l6 + 16ull;
-    MEMORY_COPY(m, t0, t1, 128ull);
-    t0 = l3 + 272ull;
-    l3 = t0;
-    t0 = l7 + 18446744073709551614ull;
+    w0 = l7 != 1ull;
+    if (w0) goto L7;
+    t0 = l6 + 8ull;
+    t0 = I64_LOAD(m, t0);
     l7 = t0;
-    w0 = l10 != l7;
-    if (w0) goto L11;
-    w0 = l11 == 0;
-    if (w0) goto L2;
-    t0 = 0ull - l7;
-    l1 = t0;
-    L10:;
-    t0 = l1 * 136ull;
-    l3 = t0;
-    t0 = l2 + l3;
-    l1 = t0;
-    t0 = I64_LOAD8_U(m, l1);
-    l5 = t0;
-    t0 = l6 + 16ull;
-    t1 = l1 + 8ull;
-    MEMORY_COPY(m, t0, t1, 128ull);
-    t0 = l9 + l3;
-    l3 = t0;
-    I64_STORE(m, l3, l5);
-    t0 = l3 + 8ull;
-    t1 = l6 + 16ull;
-    MEMORY_COPY(m, t0, t1, 128ull);
-    goto L2;
+    t0 = l7 + 32ull;
+    t0 = I64_LOAD(m, t0);
+    l10 = t0;
+    t0 = l9 * 136ull;
+    l9 = t0;
+    w0 = l10 < l9;
+    if (w0) goto L9;
+    t0 = I64_LOAD(m, l7);
+    l11 = t0;
+    t0 = l11 + l10;
+    w0 = l5 == t0;
+    if (w0) goto L8;
     L9:;
-    w0 = l1 == 0;
+    t0 = l1 * 136ull;
+    l9 = t0;
+    goto L6;
+    L8:;
+    t0 = l7 + 32ull;
+    t1 = l10 - l9;
+    l7 = t1;
+    I64_STORE(m, t0, l7);
+    t0 = l11 + l7;
+    l7 = t0;
+    t0 = l7 - l5;
+    t1 = l8 * 136ull;
+    l10 = t1;
+    w0 = t0 >= l10;
+    if (w0) goto L10;
+    w0 = l8 == 0;
     if (w0) goto L2;
-    MEMORY_COPY(m, l9, l2, l1);
+    l10 = 0ull;
+    w0 = l8 == 1ull;
+    if (w0) goto L11;
+    t0 = l8 & 1ull;
+    l12 = t0;
+    l6 = 0ull;
+    t0 = l8 & 18446744073709551614ull;
+    t0 = 0ull - t0;
+    l11 = t0;
+    l10 = 0ull;
+    L12:;
+    t0 = l5 + l10;
+    l9 = t0;
+    t0 = I64_LOAD8_U(m, l9);
+    l4 = t0;
+    t0 = l2 + 32ull;
+    t1 = l9 + 8ull;
+    MEMORY_COPY(m, t0, t1, 128ull);
+    t0 = l7 + l10;
+    l8 = t0;
+    I64_STORE(m, l8, l4);
+    t0 = l8 + 8ull;
+    t1 = l2 + 32ull;
+    MEMORY_COPY(m, t0, t1, 128ull);
+    t0 = l9 + 136ull;
+    t0 = I64_LOAD8_U(m, t0);
+    l4 = t0;
+    t0 = l2 + 32ull;
+    t1 = l9 + 144ull;
+    MEMORY_COPY(m, t0, t1, 128ull);
+    t0 = l8 + 136ull;
+    I64_STORE(m, t0, l4);
+    t0 = l8 + 144ull;
+    t1 = l2 + 32ull;
+    MEMORY_COPY(m, t0, t1, 128ull);
+    t0 = l10 + 272ull;
+    l10 = t0;
+    t0 = l6 + 18446744073709551614ull;
+    l6 = t0;
+    w0 = l11 != l6;
+    if (w0) goto L12;
+    w0 = l12 == 0;
+    if (w0) goto L2;
+    t0 = 0ull - l6;
+    l10 = t0;
+    L11:;
+    t0 = l10 * 136ull;
+    l10 = t0;
+    t0 = l5 + l10;
+    l9 = t0;
+    t0 = I64_LOAD8_U(m, l9);
+    l8 = t0;
+    t0 = l2 + 32ull;
+    t1 = l9 + 8ull;
+    MEMORY_COPY(m, t0, t1, 128ull);
+    t0 = l7 + l10;
+    l10 = t0;
+    I64_STORE(m, l10, l8);
+    t0 = l10 + 8ull;
+    t1 = l2 + 32ull;
+    MEMORY_COPY(m, t0, t1, 128ull);
     goto L2;
+    L10:;
+    w0 = l10 == 0;
+    if (w0) goto L2;
+    MEMORY_COPY(m, l7, l5, l10);
+    goto L2;
+    L7:;
+    t0 = l1 * 136ull;
+    l9 = t0;
+    w0 = l7 == 0;
+    if (w0) goto L5;
+    t0 = l6 + 8ull;
+    t0 = I64_LOAD(m, t0);
+    l7 = t0;
+    t0 = l7 + 32ull;
+    t0 = I64_LOAD(m, t0);
+    l10 = t0;
     L6:;
-    t0 = l5 * 136ull;
-    l5 = t0;
-    w0 = l1 == 0;
-    if (w0) goto L4;
-    t0 = l7 + 8ull;
-    t0 = I64_LOAD(m, t0);
-    l1 = t0;
-    t0 = l1 + 32ull;
-    t0 = I64_LOAD(m, t0);
-    l9 = t0;
-    L5:;
-    t0 = l9 & 18446744073709551608ull;
-    l9 = t0;
-    w0 = l9 < l5;
-    if (w0) goto L4;
-    t0 = l1 + 32ull;
-    t1 = l9 - l5;
-    l5 = t1;
-    I64_STORE(m, t0, l5);
-    t0 = I64_LOAD(m, l1);
-    t0 = t0 + l5;
+    t0 = l10 & 18446744073709551608ull;
     l10 = t0;
-    l12 = 1u;
-    goto L3;
-    L4:;
-    f118(m, l6, l7, l5, 8ull);
-    t0 = I64_LOAD(m, l6 + 8u);
-    l10 = t0;
-    w0 = I32_LOAD8_U(m, l6);
-    l12 = w0;
-    L3:;
+    w0 = l10 < l9;
+    if (w0) goto L5;
+    t0 = l7 + 32ull;
+    t1 = l10 - l9;
+    l10 = t1;
+    I64_STORE(m, t0, l10);
+    t0 = I64_LOAD(m, l7);
+    t0 = t0 + l10;
+    l7 = t0;
     l13 = 1u;
-    l9 = 0ull;
-    w0 = l12 & 1u;
+    goto L4;
+    L5:;
+    t0 = l2 + 16ull;
+    f102(m, t0, l6, l9, 8ull);
+    t0 = I64_LOAD(m, l2 + 24u);
+    l7 = t0;
+    w0 = I32_LOAD8_U(m, l2 + 16u);
+    l13 = w0;
+    L4:;
+    w0 = l13 & 1u;
     w0 = w0 == 0;
     if (w0) goto L1;
-    t0 = l7 + 24ull;
-    l1 = t0;
-    t0 = I64_LOAD(m, l1);
-    l5 = t0;
-    w0 = l5 == 18446744073709551615ull;
+    t0 = l6 + 24ull;
+    l10 = t0;
+    t0 = I64_LOAD(m, l10);
+    l9 = t0;
+    w0 = l9 == 18446744073709551615ull;
     if (w0) goto L1;
-    l9 = l10;
-    t0 = l5 + 1ull;
-    I64_STORE(m, l1, t0);
-    t0 = l10 - l2;
-    t1 = l3 * 136ull;
-    l1 = t1;
-    w0 = t0 >= l1;
-    if (w0) goto L13;
-    w0 = l3 == 0;
-    if (w0) goto L12;
-    l8 = 0ull;
-    w0 = l3 == 1ull;
+    t0 = l9 + 1ull;
+    I64_STORE(m, l10, t0);
+    t0 = l7 - l5;
+    t1 = l8 * 136ull;
+    l10 = t1;
+    w0 = t0 >= l10;
     if (w0) goto L14;
-    t0 = l3 & 1ull;
-    l14 = t0;
-    t0 = l3 & 18446744073709551614ull;
-    l15 = t0;
-    l3 = 0ull;
-    l8 = 0ull;
-    L15:;
-    t0 = l2 + l3;
-    l1 = t0;
-    t0 = I64_LOAD8_U(m, l1);
-    l11 = t0;
-    t0 = l6 + 16ull;
-    t1 = l1 + 8ull;
-    MEMORY_COPY(m, t0, t1, 128ull);
-    t0 = l10 + l3;
-    l5 = t0;
-    I64_STORE(m, l5, l11);
-    t0 = l5 + 8ull;
-    t1 = l6 + 16ull;
-    MEMORY_COPY(m, t0, t1, 128ull);
-    t0 = l1 + 136ull;
-    t0 = I64_LOAD8_U(m, t0);
-    l11 = t0;
-    t0 = l6 + 16ull;
-    t1 = l1 + 144ull;
-    MEMORY_COPY(m, t0, t1, 128ull);
-    t0 = l5 + 136ull;
-    I64_STORE(m, t0, l11);
-    t0 = l5 + 144ull;
-    t1 = l6 + 16ull;
-    MEMORY_COPY(m, t0, t1, 128ull);
-    t0 = l3 + 272ull;
-    l3 = t0;
-    t0 = l8 + 2ull;
-    l8 = t0;
-    w0 = l15 != l8;
+    w0 = l8 == 0;
+    if (w0) goto L13;
+    l11 = 0ull;
+    w0 = l8 == 1ull;
     if (w0) goto L15;
+    t0 = l8 & 1ull;
+    l14 = t0;
+    t0 = l8 & 18446744073709551614ull;
+    l15 = t0;
+    l10 = 0ull;
+    l11 = 0ull;
+    L16:;
+    t0 = l5 + l10;
+    l9 = t0;
+    t0 = I64_LOAD8_U(m, l9);
+    l12 = t0;
+    t0 = l2 + 32ull;
+    t1 = l9 + 8ull;
+    MEMORY_COPY(m, t0, t1, 128ull);
+    t0 = l7 + l10;
+    l8 = t0;
+    I64_STORE(m, l8, l12);
+    t0 = l8 + 8ull;
+    t1 = l2 + 32ull;
+    MEMORY_COPY(m, t0, t1, 128ull);
+    t0 = l9 + 136ull;
+    t0 = I64_LOAD8_U(m, t0);
+    l12 = t0;
+    t0 = l2 + 32ull;
+    t1 = l9 + 144ull;
+    MEMORY_COPY(m, t0, t1, 128ull);
+    t0 = l8 + 136ull;
+    I64_STORE(m, t0, l12);
+    t0 = l8 + 144ull;
+    t1 = l2 + 32ull;
+    MEMORY_COPY(m, t0, t1, 128ull);
+    t0 = l10 + 272ull;
+    l10 = t0;
+    t0 = l11 + 2ull;
+    l11 = t0;
+    w0 = l15 != l11;
+    if (w0) goto L16;
     w0 = l14 == 0;
-    if (w0) goto L12;
+    if (w0) goto L13;
+    L15:;
+    t0 = l11 * 136ull;
+    l10 = t0;
+    t0 = l5 + l10;
+    l9 = t0;
+    t0 = I64_LOAD8_U(m, l9);
+    l8 = t0;
+    t0 = l2 + 32ull;
+    t1 = l9 + 8ull;
+    MEMORY_COPY(m, t0, t1, 128ull);
+    t0 = l7 + l10;
+    l10 = t0;
+    I64_STORE(m, l10, l8);
+    t0 = l10 + 8ull;
+    t1 = l2 + 32ull;
+    MEMORY_COPY(m, t0, t1, 128ull);
+    goto L13;
     L14:;
-    t0 = l8 * 136ull;
-    l3 = t0;
-    t0 = l2 + l3;
-    l1 = t0;
-    t0 = I64_LOAD8_U(m, l1);
-    l5 = t0;
-    t0 = l6 + 16ull;
-    t1 = l1 + 8ull;
-    MEMORY_COPY(m, t0, t1, 128ull);
-    t0 = l10 + l3;
-    l3 = t0;
-    I64_STORE(m, l3, l5);
-    t0 = l3 + 8ull;
-    t1 = l6 + 16ull;
-    MEMORY_COPY(m, t0, t1, 128ull);
-    goto L12;
+    w0 = l10 == 0;
+    if (w0) goto L13;
+    MEMORY_COPY(m, l7, l5, l10);
     L13:;
-    w0 = l1 == 0;
-    if (w0) goto L12;
-    MEMORY_COPY(m, l9, l2, l1);
-    L12:;
-    t0 = l7 + 16ull;
+    t0 = l6 + 16ull;
     t0 = I64_LOAD(m, t0);
     w0 = t0 != 1ull;
-    if (w0) goto L16;
-    t0 = l7 + 8ull;
+    if (w0) goto L17;
+    t0 = l6 + 8ull;
     t0 = I64_LOAD(m, t0);
-    l3 = t0;
-    t0 = I64_LOAD(m, l3);
-    t1 = l3 + 32ull;
-    l3 = t1;
-    t1 = I64_LOAD(m, l3);
-    l1 = t1;
-    t0 = t0 + l1;
-    w0 = l2 != t0;
-    if (w0) goto L16;
+    l10 = t0;
+    t0 = I64_LOAD(m, l10);
+    t1 = l10 + 32ull;
+    l10 = t1;
+    t1 = I64_LOAD(m, l10);
+    l9 = t1;
+    t0 = t0 + l9;
+    w0 = l5 != t0;
+    if (w0) goto L17;
     t0 = l4 * 136ull;
-    t0 = l1 + t0;
-    I64_STORE(m, l3, t0);
-    L16:;
-    t0 = l7 + 24ull;
-    l3 = t0;
-    t0 = I64_LOAD(m, l3);
+    t0 = l9 + t0;
+    I64_STORE(m, l10, t0);
+    L17:;
+    t0 = l6 + 24ull;
+    l10 = t0;
+    t0 = I64_LOAD(m, l10);
     t0 = t0 + 18446744073709551615ull;
-    I64_STORE(m, l3, t0);
+    I64_STORE(m, l10, t0);
+    goto L2;
+    L3:;
+    t0 = l1 * 136ull;
+    l7 = t0;
+    t0 = l0 + 24ull;
+    t0 = I64_LOAD(m, t0);
+    l10 = t0;
+    t0 = l10 + 16ull;
+    t0 = I64_LOAD(m, t0);
+    w0 = t0 == 0;
+    if (w0) goto L19;
+    t0 = l10 + 8ull;
+    t0 = I64_LOAD(m, t0);
+    l9 = t0;
+    t0 = l9 + 32ull;
+    l8 = t0;
+    t0 = I64_LOAD(m, l8);
+    t0 = t0 & 18446744073709551608ull;
+    l5 = t0;
+    w0 = l5 < l7;
+    if (w0) goto L19;
+    t0 = l5 - l7;
+    l7 = t0;
+    I64_STORE(m, l8, l7);
+    t0 = I64_LOAD(m, l9);
+    t0 = t0 + l7;
+    l7 = t0;
+    l13 = 1u;
+    goto L18;
+    L19:;
+    f102(m, l2, l10, l7, 8ull);
+    t0 = I64_LOAD(m, l2 + 8u);
+    l7 = t0;
+    w0 = I32_LOAD8_U(m, l2);
+    l13 = w0;
+    L18:;
+    w0 = l13 & 1u;
+    w0 = w0 == 0;
+    if (w0) goto L1;
+    t0 = l10 + 24ull;
+    l10 = t0;
+    t0 = I64_LOAD(m, l10);
+    l9 = t0;
+    w0 = l9 == 18446744073709551615ull;
+    if (w0) goto L1;
+    t0 = l9 + 1ull;
+    I64_STORE(m, l10, t0);
     L2:;
-    l13 = 0u;
+    I64_STORE(m, l0, l7);
+    t0 = l0 + 16ull;
+    I64_STORE(m, t0, l1);
+    l3 = 1u;
     L1:;
-    I64_STORE(m, l0 + 8u, l9);
-    I32_STORE8(m, l0, l13);
-    t0 = l6 + 144ull;
+    t0 = l2 + 160ull;
     m->stack_pointer = t0;
-    return;
+    return l3;
     TRAP(m);
-    return;
+    return 0;
 }
 
-/* std_alloc::vec::Vec::move_to::<#7073091ce0c6d8ab> */
-static u32 f136(Machine *m, u64 l0, u64 l1) {
+/* std_alloc::vec::Vec::move_to::<#8566564ef4ef3c00> */
+static u32 f137(Machine *m, u64 l0, u64 l1) {
     u32 l4 = 0, l15 = 0, w0;
     u64 l2 = 0, l3 = 0, l5 = 0, l6 = 0, l7 = 0, l8 = 0, l9 = 0, l10 = 0, l11 = 0, l12 = 0, l13 = 0, l14 = 0, t0, t1;
     FRAME(m, 32u);
@@ -36790,7 +36456,7 @@ static u32 f136(Machine *m, u64 l0, u64 l1) {
     goto L4;
     L5:;
     t0 = l3 + 16ull;
-    f118(m, t0, l7, l9, 8ull);
+    f102(m, t0, l7, l9, 8ull);
     t0 = I64_LOAD(m, l3 + 24u);
     l12 = t0;
     w0 = I32_LOAD8_U(m, l3 + 16u);
@@ -36949,7 +36615,7 @@ static u32 f136(Machine *m, u64 l0, u64 l1) {
     l15 = 1u;
     goto L20;
     L21:;
-    f118(m, l3, l9, l2, 8ull);
+    f102(m, l3, l9, l2, 8ull);
     t0 = I64_LOAD(m, l3 + 8u);
     l12 = t0;
     w0 = I32_LOAD8_U(m, l3);
@@ -36979,8 +36645,8 @@ static u32 f136(Machine *m, u64 l0, u64 l1) {
     return 0;
 }
 
-/* std_alloc::vec::Vec::grow_amortized::<#7073091ce0c6d8ab> */
-static u32 f137(Machine *m, u64 l0) {
+/* std_alloc::vec::Vec::grow_amortized::<#8566564ef4ef3c00> */
+static u32 f138(Machine *m, u64 l0) {
     u32 l5 = 0, w0;
     u64 l2 = 0, l3 = 0, l4 = 0, t0;
     t0 = l0 + 8ull;
@@ -37003,15 +36669,15 @@ static u32 f137(Machine *m, u64 l0) {
     t0 = w0 ? l2 : l4;
     w0 = l3 < 4611686018427387904ull;
     t0 = w0 ? t0 : l2;
-    w0 = f136(m, l0, t0);
+    w0 = f137(m, l0, t0);
     l5 = w0;
     return l5;
     TRAP(m);
     return 0;
 }
 
-/* std_alloc::vec::Vec::move_to::<#0dda64b17ea7a5a6> */
-static u32 f138(Machine *m, u64 l0, u64 l1) {
+/* std_alloc::vec::Vec::move_to::<#b0b2d94a0be3c8ab> */
+static u32 f139(Machine *m, u64 l0, u64 l1) {
     u32 l3 = 0, l6 = 0, l10 = 0, w0;
     u64 l2 = 0, l4 = 0, l5 = 0, l7 = 0, l8 = 0, l9 = 0, t0, t1, t2;
     FRAME(m, 32u);
@@ -37033,7 +36699,7 @@ static u32 f138(Machine *m, u64 l0, u64 l1) {
     t1 = I64_LOAD(m, l0);
     t2 = l0 + 8ull;
     t2 = I64_LOAD(m, t2);
-    f117(m, t0, l4, t1, t2, l5, l1);
+    f101(m, t0, l4, t1, t2, l5, l1);
     t0 = I64_LOAD(m, l2 + 24u);
     l4 = t0;
     w0 = I32_LOAD8_U(m, l2 + 16u);
@@ -37067,7 +36733,7 @@ static u32 f138(Machine *m, u64 l0, u64 l1) {
     l10 = 1u;
     goto L4;
     L5:;
-    f118(m, l2, l7, l5, 8ull);
+    f102(m, l2, l7, l5, 8ull);
     t0 = I64_LOAD(m, l2 + 8u);
     l4 = t0;
     w0 = I32_LOAD8_U(m, l2);
@@ -37106,8 +36772,8 @@ static u32 f138(Machine *m, u64 l0, u64 l1) {
     return 0;
 }
 
-/* std_alloc::vec::Vec::grow_amortized::<#0dda64b17ea7a5a6> */
-static u32 f139(Machine *m, u64 l0) {
+/* std_alloc::vec::Vec::grow_amortized::<#b0b2d94a0be3c8ab> */
+static u32 f140(Machine *m, u64 l0) {
     u32 l5 = 0, w0;
     u64 l2 = 0, l3 = 0, l4 = 0, t0;
     t0 = l0 + 8ull;
@@ -37130,7 +36796,7 @@ static u32 f139(Machine *m, u64 l0) {
     t0 = w0 ? l2 : l4;
     w0 = l3 < 4611686018427387904ull;
     t0 = w0 ? t0 : l2;
-    w0 = f138(m, l0, t0);
+    w0 = f139(m, l0, t0);
     l5 = w0;
     return l5;
     TRAP(m);
@@ -37138,7 +36804,7 @@ static u32 f139(Machine *m, u64 l0) {
 }
 
 /* core::slice::sort::slice+T::sort_unstable::<#b891367785e33cee> */
-static void f140(Machine *m, u64 l0, u64 l1) {
+static void f141(Machine *m, u64 l0, u64 l1) {
     u32 w0;
     u64 l3 = 0, l4 = 0, l5 = 0, l6 = 0, l7 = 0, l8 = 0, t0, t1;
     w0 = l1 > 20ull;
@@ -37249,7 +36915,7 @@ static void f140(Machine *m, u64 l0, u64 l1) {
     w0 = (u32)t0;
     w0 = w0 << 1;
     w0 = w0 ^ 126u;
-    f141(m, l0, 0ull, l1, w0);
+    f142(m, l0, 0ull, l1, w0);
     return;
     L15:;
     w0 = l8 >= l6;
@@ -37268,7 +36934,7 @@ static void f140(Machine *m, u64 l0, u64 l1) {
 }
 
 /* core::slice::sort::unstable::quicksort::<#75cd0846edc406a1> */
-static void f141(Machine *m, u64 l0, u64 l1, u64 l2, u32 l3) {
+static void f142(Machine *m, u64 l0, u64 l1, u64 l2, u32 l3) {
     u32 l14 = 0, w0;
     u64 l5 = 0, l6 = 0, l7 = 0, l8 = 0, l9 = 0, l10 = 0, l11 = 0, l12 = 0, l13 = 0, l15 = 0, l16 = 0, l17 = 0, l18 = 0, l19 = 0, l20 = 0, l21 = 0;
     u64 l22 = 0, l23 = 0, l24 = 0, l25 = 0, l26 = 0, l27 = 0, l28 = 0, l29 = 0, l30 = 0, l31 = 0, l32 = 0, l33 = 0, l34 = 0, l35 = 0, l36 = 0, t0;
@@ -37438,7 +37104,7 @@ static void f141(Machine *m, u64 l0, u64 l1, u64 l2, u32 l3) {
     l9 = t0;
     goto L17;
     L18:;
-    t0 = f142(m, l0, l1, l10, l7, l9);
+    t0 = f143(m, l0, l1, l10, l7, l9);
     l9 = t0;
     L17:;
     w0 = l3 + 4294967295u;
@@ -37755,7 +37421,7 @@ static void f141(Machine *m, u64 l0, u64 l1, u64 l2, u32 l3) {
     t0 = l11 + l5;
     I64_STORE(m, t0, l10);
     t0 = l7 + l1;
-    f141(m, l0, l1, t0, l3);
+    f142(m, l0, l1, t0, l3);
     L19:;
     t0 = l9 + l1;
     l1 = t0;
@@ -38641,7 +38307,7 @@ static void f141(Machine *m, u64 l0, u64 l1, u64 l2, u32 l3) {
 }
 
 /* core::slice::sort::pivot::median_of_medians::<#75cd0846edc406a1> */
-static u64 f142(Machine *m, u64 l0, u64 l1, u64 l2, u64 l3, u64 l4) {
+static u64 f143(Machine *m, u64 l0, u64 l1, u64 l2, u64 l3, u64 l4) {
     u32 l7 = 0, w0;
     u64 l6 = 0, l8 = 0, t0, t1;
     w0 = l4 >= 8ull;
@@ -38676,15 +38342,15 @@ static u64 f142(Machine *m, u64 l0, u64 l1, u64 l2, u64 l3, u64 l4) {
     t1 = l4 * 7ull;
     l8 = t1;
     t1 = l8 + l1;
-    t0 = f142(m, l0, l1, t0, t1, l4);
+    t0 = f143(m, l0, l1, t0, t1, l4);
     l1 = t0;
     t0 = l6 + l2;
     t1 = l8 + l2;
-    t0 = f142(m, l0, l2, t0, t1, l4);
+    t0 = f143(m, l0, l2, t0, t1, l4);
     l2 = t0;
     t0 = l6 + l3;
     t1 = l8 + l3;
-    t0 = f142(m, l0, l3, t0, t1, l4);
+    t0 = f143(m, l0, l3, t0, t1, l4);
     l3 = t0;
     t0 = l1 << 3;
     t0 = l0 + t0;
@@ -38711,8 +38377,8 @@ static u64 f142(Machine *m, u64 l0, u64 l1, u64 l2, u64 l3, u64 l4) {
     return 0;
 }
 
-/* bech32_near_search::pairs::add_single::<#288525196b04e85e> */
-static u32 f143(Machine *m, u64 l0, u64 l1, u64 l2, u64 l3, u64 l4, u64 l5, u64 l6) {
+/* bech32_near::search::pairs::add_single::<#6d908c9e5689035d> */
+static u32 f144(Machine *m, u64 l0, u64 l1, u64 l2, u64 l3, u64 l4, u64 l5, u64 l6) {
     u32 l13 = 0, l17 = 0, w0, w1, w2, w3;
     u64 l8 = 0, l9 = 0, l10 = 0, l11 = 0, l12 = 0, l14 = 0, l15 = 0, l16 = 0, l18 = 0, t0, t1, t2, t3, t4;
     t0 = l0 + 122ull;
@@ -38827,7 +38493,7 @@ static u32 f143(Machine *m, u64 l0, u64 l1, u64 l2, u64 l3, u64 l4, u64 l5, u64 
     t0 = I64_LOAD(m, t0);
     w0 = t0 != 0ull;
     if (w0) goto L6;
-    w0 = f144(m, l8);
+    w0 = f145(m, l8);
     w0 = w0 == 0;
     if (w0) goto L0;
     t0 = l13 ? 32ull : 72ull;
@@ -38842,7 +38508,7 @@ static u32 f143(Machine *m, u64 l0, u64 l1, u64 l2, u64 l3, u64 l4, u64 l5, u64 
     l10 = t1;
     w0 = t0 != l10;
     if (w0) goto L7;
-    w0 = f145(m, l6);
+    w0 = f135(m, l6);
     if (w0) goto L8;
     return 1u;
     L8:;
@@ -39026,8 +38692,8 @@ static u32 f143(Machine *m, u64 l0, u64 l1, u64 l2, u64 l3, u64 l4, u64 l5, u64 
     return 0u;
 }
 
-/* bech32_near_search::gathering::are_zero */
-static u32 f144(Machine *m, u64 l0) {
+/* bech32_near::search::gathering::are_zero */
+static u32 f145(Machine *m, u64 l0) {
     u32 l1 = 0, w0;
     u64 t0;
     l1 = 0u;
@@ -39112,38 +38778,7 @@ static u32 f144(Machine *m, u64 l0) {
     return 0;
 }
 
-/* std_alloc::vec::Vec::grow_amortized::<#c500e24896fefe2c> */
-static u32 f145(Machine *m, u64 l0) {
-    u32 l5 = 0, w0;
-    u64 l2 = 0, l3 = 0, l4 = 0, t0;
-    t0 = l0 + 8ull;
-    t0 = I64_LOAD(m, t0);
-    l2 = t0;
-    w0 = l2 != 18446744073709551615ull;
-    if (w0) goto L1;
-    return 0u;
-    L1:;
-    w0 = l2 > 3ull;
-    t0 = w0 ? l2 : 3ull;
-    t0 = t0 + 1ull;
-    l2 = t0;
-    t0 = l0 + 16ull;
-    t0 = I64_LOAD(m, t0);
-    l3 = t0;
-    t0 = l3 << 1;
-    l4 = t0;
-    w0 = l2 > l4;
-    t0 = w0 ? l2 : l4;
-    w0 = l3 < 4611686018427387904ull;
-    t0 = w0 ? t0 : l2;
-    w0 = f149(m, l0, t0);
-    l5 = w0;
-    return l5;
-    TRAP(m);
-    return 0;
-}
-
-/* bech32_near_search::gathering::add_answer::<#288525196b04e85e> */
+/* bech32_near::search::gathering::add_answer::<#6d908c9e5689035d> */
 static u32 f146(Machine *m, u64 l0, u64 l1, u64 l2, u64 l3) {
     u32 l6 = 0, l7 = 0, w0;
     u64 l4 = 0, l5 = 0, l8 = 0, l9 = 0, l10 = 0, l11 = 0, t0, t1;
@@ -39255,7 +38890,7 @@ static u32 f146(Machine *m, u64 l0, u64 l1, u64 l2, u64 l3) {
     l2 = t1;
     w0 = t0 != l2;
     if (w0) goto L8;
-    w0 = f145(m, l3);
+    w0 = f135(m, l3);
     w0 = w0 == 0;
     if (w0) goto L2;
     t0 = l3 + 8ull;
@@ -39322,7 +38957,7 @@ static u32 f146(Machine *m, u64 l0, u64 l1, u64 l2, u64 l3) {
     return 0;
 }
 
-/* bech32_near_search::gathering::gather_with::<#288525196b04e85e> */
+/* bech32_near::search::gathering::gather_with::<#6d908c9e5689035d> */
 static u32 f147(Machine *m, u64 l0, u64 l1, u32 l2, u64 l3, u64 l4) {
     u32 l6 = 0, l10 = 0, w0, w1;
     u64 l5 = 0, l7 = 0, l8 = 0, l9 = 0, l11 = 0, l12 = 0, l13 = 0, t0, t1;
@@ -39332,7 +38967,7 @@ static u32 f147(Machine *m, u64 l0, u64 l1, u32 l2, u64 l3, u64 l4) {
     l5 = t0;
     m->stack_pointer = l5;
     MEMORY_FILL(m, l5, 0u, 168ull);
-    f150(m, l5, l0, l1, l2);
+    f148(m, l5, l0, l1, l2);
     l6 = 1u;
     w0 = I32_LOAD8_U(m, l5);
     if (w0) goto L1;
@@ -39366,10 +39001,10 @@ static u32 f147(Machine *m, u64 l0, u64 l1, u32 l2, u64 l3, u64 l4) {
     l6 = w0;
     t0 = l5 + 8ull;
     t1 = l5 + 168ull;
-    w0 = f151(m, t0, l3, l1, t1);
+    w0 = f149(m, t0, l3, l1, t1);
     w0 = w0 & 255u;
     t0 = l5 + 168ull;
-    w0 = f152(m, l0, w0, t0, l1, l2, l4);
+    w0 = f150(m, l0, w0, t0, l1, l2, l4);
     w0 = w0 & 255u;
     if (w0) goto L2;
     if (l6) goto L3;
@@ -39494,145 +39129,8 @@ static u32 f147(Machine *m, u64 l0, u64 l1, u32 l2, u64 l3, u64 l4) {
     return 0;
 }
 
-/* std_alloc::vec::Vec::drop::<#a92c3c62d28c9b54> */
-static void f148(Machine *m, u64 l0) {
-    u32 w0;
-    u64 l1 = 0, l2 = 0, l3 = 0, t0, t1, t2;
-    t0 = I64_LOAD(m, l0 + 16u);
-    l1 = t0;
-    w0 = l1 == 0;
-    if (w0) goto L1;
-    t0 = I64_LOAD(m, l0 + 24u);
-    l2 = t0;
-    t0 = l2 + 16ull;
-    t0 = I64_LOAD(m, t0);
-    w0 = t0 != 1ull;
-    if (w0) goto L2;
-    t0 = I64_LOAD(m, l0);
-    t1 = l2 + 8ull;
-    t1 = I64_LOAD(m, t1);
-    l0 = t1;
-    t1 = I64_LOAD(m, l0);
-    t2 = l0 + 32ull;
-    l0 = t2;
-    t2 = I64_LOAD(m, l0);
-    l3 = t2;
-    t1 = t1 + l3;
-    w0 = t0 != t1;
-    if (w0) goto L2;
-    t0 = l1 << 4;
-    t0 = l3 + t0;
-    I64_STORE(m, l0, t0);
-    L2:;
-    t0 = l2 + 24ull;
-    l0 = t0;
-    t0 = I64_LOAD(m, l0);
-    t0 = t0 + 18446744073709551615ull;
-    I64_STORE(m, l0, t0);
-    L1:;
-    return;
-    TRAP(m);
-    return;
-}
-
-/* std_alloc::vec::Vec::move_to::<#c500e24896fefe2c> */
-static u32 f149(Machine *m, u64 l0, u64 l1) {
-    u32 l3 = 0, l6 = 0, l10 = 0, w0;
-    u64 l2 = 0, l4 = 0, l5 = 0, l7 = 0, l8 = 0, l9 = 0, t0, t1, t2;
-    FRAME(m, 32u);
-    t0 = m->stack_pointer;
-    t0 = t0 - 32ull;
-    l2 = t0;
-    m->stack_pointer = l2;
-    l3 = 0u;
-    w0 = l1 >= 67818912035696881ull;
-    if (w0) goto L1;
-    t0 = l0 + 24ull;
-    l4 = t0;
-    t0 = l0 + 16ull;
-    t0 = I64_LOAD(m, t0);
-    l5 = t0;
-    w0 = l5 == 0;
-    if (w0) goto L3;
-    t0 = l2 + 16ull;
-    t1 = I64_LOAD(m, l0);
-    t2 = l0 + 8ull;
-    t2 = I64_LOAD(m, t2);
-    f135(m, t0, l4, t1, t2, l5, l1);
-    t0 = I64_LOAD(m, l2 + 24u);
-    l4 = t0;
-    w0 = I32_LOAD8_U(m, l2 + 16u);
-    l6 = w0;
-    goto L2;
-    L3:;
-    t0 = l1 * 136ull;
-    l5 = t0;
-    t0 = I64_LOAD(m, l4);
-    l7 = t0;
-    t0 = l7 + 16ull;
-    t0 = I64_LOAD(m, t0);
-    w0 = t0 == 0;
-    if (w0) goto L5;
-    t0 = l7 + 8ull;
-    t0 = I64_LOAD(m, t0);
-    l4 = t0;
-    t0 = l4 + 32ull;
-    l8 = t0;
-    t0 = I64_LOAD(m, l8);
-    t0 = t0 & 18446744073709551608ull;
-    l9 = t0;
-    w0 = l9 < l5;
-    if (w0) goto L5;
-    t0 = l9 - l5;
-    l5 = t0;
-    I64_STORE(m, l8, l5);
-    t0 = I64_LOAD(m, l4);
-    t0 = t0 + l5;
-    l4 = t0;
-    l10 = 1u;
-    goto L4;
-    L5:;
-    f118(m, l2, l7, l5, 8ull);
-    t0 = I64_LOAD(m, l2 + 8u);
-    l4 = t0;
-    w0 = I32_LOAD8_U(m, l2);
-    l10 = w0;
-    L4:;
-    l6 = 1u;
-    w0 = l10 & 1u;
-    if (w0) goto L6;
-    l4 = 0ull;
-    goto L2;
-    L6:;
-    t0 = l7 + 24ull;
-    l5 = t0;
-    t0 = I64_LOAD(m, l5);
-    l7 = t0;
-    w0 = l7 != 18446744073709551615ull;
-    if (w0) goto L7;
-    l4 = 0ull;
-    goto L2;
-    L7:;
-    t0 = l7 + 1ull;
-    I64_STORE(m, l5, t0);
-    l6 = 0u;
-    L2:;
-    w0 = l6 & 255u;
-    if (w0) goto L1;
-    t0 = l0 + 16ull;
-    I64_STORE(m, t0, l1);
-    I64_STORE(m, l0, l4);
-    l3 = 1u;
-    L1:;
-    t0 = l2 + 32ull;
-    m->stack_pointer = t0;
-    return l3;
-    TRAP(m);
-    return 0;
-}
-
-/* bech32_correction::corrector::Corrector::without_error::<#288525196b04e85e> */
-static void f150(Machine *m, u64 l0, u64 l1, u64 l2, u32 l3) {
+/* bech32_correction::corrector::Corrector::without_error::<#6d908c9e5689035d> */
+static void f148(Machine *m, u64 l0, u64 l1, u64 l2, u32 l3) {
     u32 l5 = 0, w0, w1;
     u64 l4 = 0, l6 = 0, l7 = 0, l8 = 0, l9 = 0, l10 = 0, l11 = 0, l12 = 0, l13 = 0, l14 = 0, l15 = 0, l16 = 0, t0, t1;
     FRAME(m, 272u);
@@ -39949,8 +39447,8 @@ static void f150(Machine *m, u64 l0, u64 l1, u64 l2, u32 l3) {
     m->stack_pointer = t0;
 }
 
-/* bech32_near_search::gathering::gather::<#288525196b04e85e> */
-static u32 f151(Machine *m, u64 l0, u64 l1, u64 l2, u64 l3) {
+/* bech32_near::search::gathering::gather::<#6d908c9e5689035d> */
+static u32 f149(Machine *m, u64 l0, u64 l1, u64 l2, u64 l3) {
     u32 l6 = 0, l28 = 0, l32 = 0, l33 = 0, l34 = 0, w0, w1, w2, w3;
     u64 l4 = 0, l5 = 0, l7 = 0, l8 = 0, l9 = 0, l10 = 0, l11 = 0, l12 = 0, l13 = 0, l14 = 0, l15 = 0, l16 = 0, l17 = 0, l18 = 0, l19 = 0, l20 = 0;
     u64 l21 = 0, l22 = 0, l23 = 0, l24 = 0, l25 = 0, l26 = 0, l27 = 0, l29 = 0, l30 = 0, l31 = 0, l35 = 0, l36 = 0, t0, t1, t2, t3;
@@ -39988,7 +39486,7 @@ static u32 f151(Machine *m, u64 l0, u64 l1, u64 l2, u64 l3) {
     goto L1;
     L6:;
     t0 = l0 + 120ull;
-    w0 = f144(m, t0);
+    w0 = f145(m, t0);
     w0 = w0 == 0;
     if (w0) goto L5;
     t0 = l6 ? 32ull : 72ull;
@@ -40003,7 +39501,7 @@ static u32 f151(Machine *m, u64 l0, u64 l1, u64 l2, u64 l3) {
     l4 = t1;
     w0 = t0 != l4;
     if (w0) goto L7;
-    w0 = f145(m, l3);
+    w0 = f135(m, l3);
     w0 = w0 == 0;
     if (w0) goto L1;
     t0 = l3 + 8ull;
@@ -40289,7 +39787,7 @@ static u32 f151(Machine *m, u64 l0, u64 l1, u64 l2, u64 l3) {
     w0 = t0 != t1;
     if (w0) goto L27;
     t0 = l5 + 232ull;
-    w0 = f115(m, t0);
+    w0 = f117(m, t0);
     l28 = w0;
     w0 = I32_LOAD8_U(m, l5 + 232u);
     l6 = w0;
@@ -40405,7 +39903,7 @@ static u32 f151(Machine *m, u64 l0, u64 l1, u64 l2, u64 l3) {
     w0 = l4 < l7;
     t2 = w0 ? t2 : l7;
     l4 = t2;
-    f114(m, t0, l8, t1, l9, l4);
+    f116(m, t0, l8, t1, l9, l4);
     w0 = I32_LOAD8_U(m, l5 + 472u);
     if (w0) goto L35;
     l6 = 1u;
@@ -40827,7 +40325,7 @@ static u32 f151(Machine *m, u64 l0, u64 l1, u64 l2, u64 l3) {
     t3 = l5 + 1048ull;
     t3 = l6 ? t3 : l30;
     t3 = I64_LOAD(m, t3);
-    f153(m, t0, t1, l35, t2, t3, l28, l36, l31);
+    f151(m, t0, t1, l35, t2, t3, l28, l36, l31);
     w0 = I32_LOAD8_U(m, l5 + 688u);
     if (w0) goto L51;
     w0 = I32_LOAD8_U(m, l5 + 696u);
@@ -40848,7 +40346,7 @@ static u32 f151(Machine *m, u64 l0, u64 l1, u64 l2, u64 l3) {
     l7 = t1;
     w0 = t0 != l7;
     if (w0) goto L56;
-    w0 = f145(m, l3);
+    w0 = f135(m, l3);
     w0 = w0 == 0;
     if (w0) goto L52;
     t0 = l3 + 8ull;
@@ -40988,8 +40486,8 @@ static u32 f151(Machine *m, u64 l0, u64 l1, u64 l2, u64 l3) {
     return l6;
 }
 
-/* bech32_near_search::gathering::push_with::<#288525196b04e85e> */
-static u32 f152(Machine *m, u64 l0, u32 l1, u64 l2, u64 l3, u32 l4, u64 l5) {
+/* bech32_near::search::gathering::push_with::<#6d908c9e5689035d> */
+static u32 f150(Machine *m, u64 l0, u32 l1, u64 l2, u64 l3, u32 l4, u64 l5) {
     u32 w0;
     u64 l6 = 0, l7 = 0, l8 = 0, l9 = 0, l10 = 0, l11 = 0, l12 = 0, l13 = 0, l14 = 0, l15 = 0, l16 = 0, l17 = 0, l18 = 0, l19 = 0, l20 = 0, l21 = 0;
     u64 t0, t1, t2, t3, t4;
@@ -41059,7 +40557,7 @@ static u32 f152(Machine *m, u64 l0, u32 l1, u64 l2, u64 l3, u32 l4, u64 l5) {
     l17 = t4;
     w0 = l17 > l16;
     t4 = w0 ? 0ull : l17;
-    f153(m, t0, t1, l2, t2, l3, l4, t3, t4);
+    f151(m, t0, t1, l2, t2, l3, l4, t3, t4);
     w0 = I32_LOAD8_U(m, l6 + 104u);
     if (w0) goto L3;
     t0 = I64_LOAD(m, l6 + 144u);
@@ -41082,7 +40580,7 @@ static u32 f152(Machine *m, u64 l0, u32 l1, u64 l2, u64 l3, u32 l4, u64 l5) {
     l16 = t1;
     w0 = t0 != l16;
     if (w0) goto L9;
-    w0 = f145(m, l5);
+    w0 = f135(m, l5);
     w0 = w0 == 0;
     if (w0) goto L4;
     t0 = l5 + 8ull;
@@ -41383,8 +40881,8 @@ static u32 f152(Machine *m, u64 l0, u32 l1, u64 l2, u64 l3, u32 l4, u64 l5) {
     return 0;
 }
 
-/* bech32_near_search::gathering::with_error::<#fd2815eb74988274> */
-static void f153(Machine *m, u64 l0, u64 l1, u64 l2, u64 l3, u64 l4, u32 l5, u64 l6, u64 l7) {
+/* bech32_near::search::gathering::with_error::<#b032904b0acfe56f> */
+static void f151(Machine *m, u64 l0, u64 l1, u64 l2, u64 l3, u64 l4, u32 l5, u64 l6, u64 l7) {
     u32 l12 = 0, l13 = 0, l14 = 0, w0;
     u64 l8 = 0, l9 = 0, l10 = 0, l11 = 0, l15 = 0, t0, t1, t2;
     FRAME(m, 432u);
@@ -41793,7 +41291,7 @@ static void f153(Machine *m, u64 l0, u64 l1, u64 l2, u64 l3, u64 l4, u32 l5, u64
     I64_STORE(m, l8 + 8u, t0);
     t0 = I64_LOAD(m, l8 + 168u);
     I64_STORE(m, l8, t0);
-    f148(m, l8);
+    f134(m, l8);
     L29:;
     I32_STORE8(m, l0, 1u);
     t0 = l0 + 8ull;
@@ -41806,8 +41304,8 @@ static void f153(Machine *m, u64 l0, u64 l1, u64 l2, u64 l3, u64 l4, u32 l5, u64
     m->stack_pointer = t0;
 }
 
-/* std_alloc::vec::Vec::move_to::<#4c8895d9b39619bf> */
-static u32 f154(Machine *m, u64 l0, u64 l1) {
+/* std_alloc::vec::Vec::move_to::<#09c3c3ed37291588> */
+static u32 f152(Machine *m, u64 l0, u64 l1) {
     u32 l3 = 0, l16 = 0, w0;
     u64 l2 = 0, l4 = 0, l5 = 0, l6 = 0, l7 = 0, l8 = 0, l9 = 0, l10 = 0, l11 = 0, l12 = 0, l13 = 0, l14 = 0, l15 = 0, t0, t1;
     FRAME(m, 192u);
@@ -41955,7 +41453,7 @@ static u32 f154(Machine *m, u64 l0, u64 l1) {
     goto L4;
     L5:;
     t0 = l2 + 16ull;
-    f118(m, t0, l6, l9, 8ull);
+    f102(m, t0, l6, l9, 8ull);
     t0 = I64_LOAD(m, l2 + 24u);
     l9 = t0;
     w0 = I32_LOAD8_U(m, l2 + 16u);
@@ -42087,7 +41585,7 @@ static u32 f154(Machine *m, u64 l0, u64 l1) {
     l16 = 1u;
     goto L16;
     L17:;
-    f118(m, l2, l10, l7, 8ull);
+    f102(m, l2, l10, l7, 8ull);
     t0 = I64_LOAD(m, l2 + 8u);
     l9 = t0;
     w0 = I32_LOAD8_U(m, l2);
@@ -42117,333 +41615,8 @@ static u32 f154(Machine *m, u64 l0, u64 l1) {
     return 0;
 }
 
-/* std_alloc::vec::Vec::move_to::<#2ce8dd7eaadeb4d2> */
-static u32 f155(Machine *m, u64 l0, u64 l1) {
-    u32 l4 = 0, l15 = 0, w0;
-    u64 l2 = 0, l3 = 0, l5 = 0, l6 = 0, l7 = 0, l8 = 0, l9 = 0, l10 = 0, l11 = 0, l12 = 0, l13 = 0, l14 = 0, t0, t1;
-    FRAME(m, 32u);
-    t0 = m->stack_pointer;
-    t0 = t0 - 32ull;
-    l2 = t0;
-    m->stack_pointer = l2;
-    l3 = l2;
-    l4 = 0u;
-    w0 = SIGNED_64(l1) <= SIGNED_64(18446744073709551615ull);
-    if (w0) goto L1;
-    t0 = l0 + 24ull;
-    t0 = I64_LOAD(m, t0);
-    l5 = t0;
-    t0 = l0 + 16ull;
-    t0 = I64_LOAD(m, t0);
-    l6 = t0;
-    w0 = l6 == 0;
-    if (w0) goto L3;
-    t0 = I64_LOAD(m, l0);
-    l7 = t0;
-    t0 = l5 + 16ull;
-    t0 = I64_LOAD(m, t0);
-    l2 = t0;
-    t0 = l0 + 8ull;
-    t0 = I64_LOAD(m, t0);
-    l8 = t0;
-    t0 = l1 - l6;
-    l9 = t0;
-    w0 = l8 > l9;
-    if (w0) goto L7;
-    w0 = l2 != 1ull;
-    if (w0) goto L7;
-    t0 = l5 + 8ull;
-    t0 = I64_LOAD(m, t0);
-    l2 = t0;
-    t0 = l2 + 32ull;
-    t0 = I64_LOAD(m, t0);
-    l10 = t0;
-    w0 = l10 < l9;
-    if (w0) goto L6;
-    t0 = I64_LOAD(m, l2);
-    l11 = t0;
-    t0 = l11 + l10;
-    w0 = l7 != t0;
-    if (w0) goto L6;
-    t0 = l2 + 32ull;
-    t1 = l10 - l9;
-    l2 = t1;
-    I64_STORE(m, t0, l2);
-    t0 = l11 + l2;
-    l12 = t0;
-    t0 = l12 - l7;
-    w0 = t0 >= l8;
-    if (w0) goto L8;
-    t0 = l8 & 3ull;
-    l13 = t0;
-    l9 = 0ull;
-    w0 = l8 < 4ull;
-    if (w0) goto L9;
-    t0 = l11 + l2;
-    l5 = t0;
-    t0 = l8 & 18446744073709551612ull;
-    l14 = t0;
-    l9 = 0ull;
-    L10:;
-    t0 = l5 + l9;
-    l2 = t0;
-    t0 = l7 + l9;
-    l8 = t0;
-    w0 = I32_LOAD8_U(m, l8);
-    I32_STORE8(m, l2, w0);
-    t0 = l2 + 1ull;
-    t1 = l8 + 1ull;
-    w0 = I32_LOAD8_U(m, t1);
-    I32_STORE8(m, t0, w0);
-    t0 = l2 + 2ull;
-    t1 = l8 + 2ull;
-    w0 = I32_LOAD8_U(m, t1);
-    I32_STORE8(m, t0, w0);
-    t0 = l2 + 3ull;
-    t1 = l8 + 3ull;
-    w0 = I32_LOAD8_U(m, t1);
-    I32_STORE8(m, t0, w0);
-    t0 = l9 + 4ull;
-    l9 = t0;
-    w0 = l14 != l9;
-    if (w0) goto L10;
-    w0 = l13 == 0;
-    if (w0) goto L2;
-    L9:;
-    t0 = l7 + l9;
-    l2 = t0;
-    t0 = l9 + l10;
-    t0 = t0 + l6;
-    t0 = t0 - l1;
-    t0 = l11 + t0;
-    l9 = t0;
-    L11:;
-    w0 = I32_LOAD8_U(m, l2);
-    I32_STORE8(m, l9, w0);
-    t0 = l9 + 1ull;
-    l9 = t0;
-    t0 = l2 + 1ull;
-    l2 = t0;
-    t0 = l13 + 18446744073709551615ull;
-    l13 = t0;
-    w0 = l13 != 0ull;
-    if (w0) goto L11;
-    goto L2;
-    L8:;
-    w0 = l8 == 0;
-    if (w0) goto L2;
-    MEMORY_COPY(m, l12, l7, l8);
-    goto L2;
-    L7:;
-    w0 = l2 == 0;
-    if (w0) goto L5;
-    t0 = l5 + 8ull;
-    t0 = I64_LOAD(m, t0);
-    l2 = t0;
-    t0 = l2 + 32ull;
-    t0 = I64_LOAD(m, t0);
-    l10 = t0;
-    L6:;
-    w0 = l10 < l1;
-    if (w0) goto L5;
-    t0 = l2 + 32ull;
-    t1 = l10 - l1;
-    l9 = t1;
-    I64_STORE(m, t0, l9);
-    t0 = I64_LOAD(m, l2);
-    t0 = t0 + l9;
-    l12 = t0;
-    l15 = 1u;
-    goto L4;
-    L5:;
-    t0 = l3 + 16ull;
-    f118(m, t0, l5, l1, 1ull);
-    t0 = I64_LOAD(m, l3 + 24u);
-    l12 = t0;
-    w0 = I32_LOAD8_U(m, l3 + 16u);
-    l15 = w0;
-    L4:;
-    w0 = l15 & 1u;
-    w0 = w0 == 0;
-    if (w0) goto L1;
-    t0 = l5 + 24ull;
-    l2 = t0;
-    t0 = I64_LOAD(m, l2);
-    l9 = t0;
-    w0 = l9 == 18446744073709551615ull;
-    if (w0) goto L1;
-    t0 = l9 + 1ull;
-    I64_STORE(m, l2, t0);
-    t0 = l12 - l7;
-    w0 = t0 >= l8;
-    if (w0) goto L13;
-    t0 = l8 & 3ull;
-    l13 = t0;
-    l9 = 0ull;
-    w0 = l8 < 4ull;
-    if (w0) goto L14;
-    t0 = l8 & 18446744073709551612ull;
-    l10 = t0;
-    l9 = 0ull;
-    L15:;
-    t0 = l12 + l9;
-    l2 = t0;
-    t0 = l7 + l9;
-    l8 = t0;
-    w0 = I32_LOAD8_U(m, l8);
-    I32_STORE8(m, l2, w0);
-    t0 = l2 + 1ull;
-    t1 = l8 + 1ull;
-    w0 = I32_LOAD8_U(m, t1);
-    I32_STORE8(m, t0, w0);
-    t0 = l2 + 2ull;
-    t1 = l8 + 2ull;
-    w0 = I32_LOAD8_U(m, t1);
-    I32_STORE8(m, t0, w0);
-    t0 = l2 + 3ull;
-    t1 = l8 + 3ull;
-    w0 = I32_LOAD8_U(m, t1);
-    I32_STORE8(m, t0, w0);
-    t0 = l9 + 4ull;
-    l9 = t0;
-    w0 = l10 != l9;
-    if (w0) goto L15;
-    w0 = l13 == 0;
-    if (w0) goto L12;
-    L14:;
-    t0 = l12 + l9;
-    l2 = t0;
-    t0 = l7 + l9;
-    l9 = t0;
-    L16:;
-    w0 = I32_LOAD8_U(m, l9);
-    I32_STORE8(m, l2, w0);
-    t0 = l2 + 1ull;
-    l2 = t0;
-    t0 = l9 + 1ull;
-    l9 = t0;
-    t0 = l13 + 18446744073709551615ull;
-    l13 = t0;
-    w0 = l13 != 0ull;
-    if (w0) goto L16;
-    goto L12;
-    L13:;
-    w0 = l8 == 0;
-    if (w0) goto L12;
-    MEMORY_COPY(m, l12, l7, l8);
-    L12:;
-    t0 = l5 + 16ull;
-    t0 = I64_LOAD(m, t0);
-    w0 = t0 != 1ull;
-    if (w0) goto L17;
-    t0 = l5 + 8ull;
-    t0 = I64_LOAD(m, t0);
-    l2 = t0;
-    t0 = I64_LOAD(m, l2);
-    t1 = l2 + 32ull;
-    l2 = t1;
-    t1 = I64_LOAD(m, l2);
-    l9 = t1;
-    t0 = t0 + l9;
-    w0 = l7 != t0;
-    if (w0) goto L17;
-    t0 = l9 + l6;
-    I64_STORE(m, l2, t0);
-    L17:;
-    t0 = l5 + 24ull;
-    l2 = t0;
-    t0 = I64_LOAD(m, l2);
-    t0 = t0 + 18446744073709551615ull;
-    I64_STORE(m, l2, t0);
-    goto L2;
-    L3:;
-    t0 = l5 + 16ull;
-    t0 = I64_LOAD(m, t0);
-    w0 = t0 == 0;
-    if (w0) goto L19;
-    t0 = l5 + 8ull;
-    t0 = I64_LOAD(m, t0);
-    l2 = t0;
-    t0 = l2 + 32ull;
-    l9 = t0;
-    t0 = I64_LOAD(m, l9);
-    l8 = t0;
-    w0 = l8 < l1;
-    if (w0) goto L19;
-    t0 = l8 - l1;
-    l8 = t0;
-    I64_STORE(m, l9, l8);
-    t0 = I64_LOAD(m, l2);
-    t0 = t0 + l8;
-    l12 = t0;
-    l15 = 1u;
-    goto L18;
-    L19:;
-    f118(m, l3, l5, l1, 1ull);
-    t0 = I64_LOAD(m, l3 + 8u);
-    l12 = t0;
-    w0 = I32_LOAD8_U(m, l3);
-    l15 = w0;
-    L18:;
-    w0 = l15 & 1u;
-    w0 = w0 == 0;
-    if (w0) goto L1;
-    t0 = l5 + 24ull;
-    l2 = t0;
-    t0 = I64_LOAD(m, l2);
-    l9 = t0;
-    w0 = l9 == 18446744073709551615ull;
-    if (w0) goto L1;
-    t0 = l9 + 1ull;
-    I64_STORE(m, l2, t0);
-    L2:;
-    I64_STORE(m, l0, l12);
-    t0 = l0 + 16ull;
-    I64_STORE(m, t0, l1);
-    l4 = 1u;
-    L1:;
-    t0 = l3 + 32ull;
-    m->stack_pointer = t0;
-    return l4;
-    TRAP(m);
-    return 0;
-}
-
-/* std_alloc::vec::Vec::grow_amortized::<#2ce8dd7eaadeb4d2> */
-static u32 f156(Machine *m, u64 l0, u64 l1) {
-    u32 l3 = 0, w0;
-    u64 l4 = 0, l5 = 0, t0;
-    l3 = 0u;
-    t0 = l0 + 8ull;
-    t0 = I64_LOAD(m, t0);
-    l4 = t0;
-    t0 = l4 ^ 18446744073709551615ull;
-    w0 = l1 > t0;
-    if (w0) goto L1;
-    t0 = l4 + l1;
-    l1 = t0;
-    w0 = l1 > 8ull;
-    t0 = w0 ? l1 : 8ull;
-    l1 = t0;
-    t0 = l0 + 16ull;
-    t0 = I64_LOAD(m, t0);
-    l4 = t0;
-    t0 = l4 << 1;
-    l5 = t0;
-    w0 = l1 > l5;
-    t0 = w0 ? l1 : l5;
-    w0 = l4 < 4611686018427387904ull;
-    t0 = w0 ? t0 : l1;
-    w0 = f155(m, l0, t0);
-    l3 = w0;
-    L1:;
-    return l3;
-    TRAP(m);
-    return 0;
-}
-
-/* std_alloc::vec::Vec::grow_amortized::<#4c8895d9b39619bf> */
-static u32 f157(Machine *m, u64 l0) {
+/* std_alloc::vec::Vec::grow_amortized::<#09c3c3ed37291588> */
+static u32 f153(Machine *m, u64 l0) {
     u32 l5 = 0, w0;
     u64 l2 = 0, l3 = 0, l4 = 0, t0;
     t0 = l0 + 8ull;
@@ -42466,15 +41639,15 @@ static u32 f157(Machine *m, u64 l0) {
     t0 = w0 ? l2 : l4;
     w0 = l3 < 4611686018427387904ull;
     t0 = w0 ? t0 : l2;
-    w0 = f154(m, l0, t0);
+    w0 = f152(m, l0, t0);
     l5 = w0;
     return l5;
     TRAP(m);
     return 0;
 }
 
-/* std_alloc::vec::Vec::drop::<#dceca76d64889f2f> */
-static void f158(Machine *m, u64 l0) {
+/* std_alloc::vec::Vec::drop::<#0869fd7b147e923b> */
+static void f154(Machine *m, u64 l0) {
     u32 w0;
     u64 l1 = 0, l2 = 0, l3 = 0, l4 = 0, l5 = 0, l6 = 0, l7 = 0, l8 = 0, l9 = 0, l10 = 0, l11 = 0, t0, t1, t2;
     t0 = I64_LOAD(m, l0 + 24u);
@@ -42601,8 +41774,8 @@ static void f158(Machine *m, u64 l0) {
     return;
 }
 
-/* std_alloc::vec::deque::VecDeque::drop::<#134e859cf185dd16> */
-static void f159(Machine *m, u64 l0) {
+/* std_alloc::vec::deque::VecDeque::drop::<#0fa08cbea74d2693> */
+static void f155(Machine *m, u64 l0) {
     u32 w0;
     u64 l1 = 0, l2 = 0, l3 = 0, l4 = 0, l5 = 0, l6 = 0, l7 = 0, l8 = 0, l9 = 0, t0, t1, t2;
     t0 = I64_LOAD(m, l0 + 40u);
@@ -42754,8 +41927,8 @@ static void f159(Machine *m, u64 l0) {
     return;
 }
 
-/* std_alloc::vec::Vec::grow_amortized::<#da3d5dd45dd8ac4c> */
-static u32 f160(Machine *m, u64 l0) {
+/* std_alloc::vec::Vec::grow_amortized::<#0b3a5fec09fc422e> */
+static u32 f156(Machine *m, u64 l0) {
     u32 l2 = 0, l8 = 0, l10 = 0, w0;
     u64 l1 = 0, l3 = 0, l4 = 0, l5 = 0, l6 = 0, l7 = 0, l9 = 0, t0, t1;
     FRAME(m, 32u);
@@ -42792,7 +41965,7 @@ static u32 f160(Machine *m, u64 l0) {
     if (w0) goto L3;
     t0 = l1 + 16ull;
     t1 = I64_LOAD(m, l0);
-    f161(m, t0, l7, t1, l3, l5, l4);
+    f157(m, t0, l7, t1, l3, l5, l4);
     t0 = I64_LOAD(m, l1 + 24u);
     l3 = t0;
     w0 = I32_LOAD8_U(m, l1 + 16u);
@@ -42826,7 +41999,7 @@ static u32 f160(Machine *m, u64 l0) {
     l10 = 1u;
     goto L4;
     L5:;
-    f162(m, l1, l5, l3, 8ull);
+    f158(m, l1, l5, l3, 8ull);
     t0 = I64_LOAD(m, l1 + 8u);
     l3 = t0;
     w0 = I32_LOAD8_U(m, l1);
@@ -42865,8 +42038,8 @@ static u32 f160(Machine *m, u64 l0) {
     return 0;
 }
 
-/* core::alloc::RefAllocator::grow::<#d8abbb634ddd7dc4> */
-static void f161(Machine *m, u64 l0, u64 l1, u64 l2, u64 l3, u64 l4, u64 l5) {
+/* core::alloc::RefAllocator::grow::<#c3f85a02631c0e16> */
+static void f157(Machine *m, u64 l0, u64 l1, u64 l2, u64 l3, u64 l4, u64 l5) {
     u32 l11 = 0, l13 = 0, w0;
     u64 l6 = 0, l7 = 0, l8 = 0, l9 = 0, l10 = 0, l12 = 0, l14 = 0, l15 = 0, t0, t1;
     FRAME(m, 16u);
@@ -43022,7 +42195,7 @@ static void f161(Machine *m, u64 l0, u64 l1, u64 l2, u64 l3, u64 l4, u64 l5) {
     l13 = 1u;
     goto L3;
     L4:;
-    f162(m, l7, l8, l5, 8ull);
+    f158(m, l7, l8, l5, 8ull);
     t0 = I64_LOAD(m, l7 + 8u);
     l10 = t0;
     w0 = I32_LOAD8_U(m, l7);
@@ -43159,7 +42332,7 @@ static void f161(Machine *m, u64 l0, u64 l1, u64 l2, u64 l3, u64 l4, u64 l5) {
 }
 
 /* bumpalo::bump::Bump::alloc_layout_slow::<#2f0dac61d8292fbf> */
-static void f162(Machine *m, u64 l0, u64 l1, u64 l2, u64 l3) {
+static void f158(Machine *m, u64 l0, u64 l1, u64 l2, u64 l3) {
     u32 l7 = 0, l8 = 0, l9 = 0, l17 = 0, w0, w1, w2;
     u64 l4 = 0, l5 = 0, l6 = 0, l10 = 0, l11 = 0, l12 = 0, l13 = 0, l14 = 0, l15 = 0, l16 = 0, l18 = 0, l19 = 0, l20 = 0, t0, t1;
     l4 = 0ull;
@@ -43365,8 +42538,8 @@ static void f162(Machine *m, u64 l0, u64 l1, u64 l2, u64 l3) {
     return;
 }
 
-/* bech32_near_edits::texts::edited_all::<#7a7b4d3859a9cb38> */
-static void f163(Machine *m, u64 l0, u64 l1, u64 l2, u64 l3, u64 l4) {
+/* bech32_near::edits::texts::edited_all::<#7a7b4d3859a9cb38> */
+static void f159(Machine *m, u64 l0, u64 l1, u64 l2, u64 l3, u64 l4) {
     u32 l12 = 0, l13 = 0, l14 = 0, w0;
     u64 l5 = 0, l6 = 0, l7 = 0, l8 = 0, l9 = 0, l10 = 0, l11 = 0, l15 = 0, l16 = 0, l17 = 0, l18 = 0, l19 = 0, l20 = 0, t0, t1, t2;
     FRAME(m, 96u);
@@ -43437,12 +42610,12 @@ static void f163(Machine *m, u64 l0, u64 l1, u64 l2, u64 l3, u64 l4) {
     t0 = l5 + 40ull;
     t1 = l4 + 18446744073709551614ull;
     t2 = l5 + 86ull;
-    f164(m, t0, l1, l2, l3, t1, t2, 2ull, l4);
+    f160(m, t0, l1, l2, l3, t1, t2, 2ull, l4);
     goto L6;
     L8:;
     t0 = l5 + 40ull;
     t1 = l4 + 18446744073709551615ull;
-    f164(m, t0, l1, l2, l3, t1, PLACE(61885u), 0ull, l4);
+    f160(m, t0, l1, l2, l3, t1, PLACE(61885u), 0ull, l4);
     goto L6;
     L7:;
     t0 = l16 << 2;
@@ -43450,7 +42623,7 @@ static void f163(Machine *m, u64 l0, u64 l1, u64 l2, u64 l3, u64 l4) {
     I32_STORE8(m, l5 + 86u, w0);
     t0 = l5 + 40ull;
     t1 = l5 + 86ull;
-    f164(m, t0, l1, l2, l3, l4, t1, 1ull, l4);
+    f160(m, t0, l1, l2, l3, l4, t1, 1ull, l4);
     L6:;
     w0 = I32_LOAD8_U(m, l5 + 40u);
     if (w0) goto L3;
@@ -43472,7 +42645,7 @@ static void f163(Machine *m, u64 l0, u64 l1, u64 l2, u64 l3, u64 l4) {
     w0 = t0 != l16;
     if (w0) goto L10;
     t0 = l5 + 8ull;
-    w0 = f165(m, t0);
+    w0 = f161(m, t0);
     w0 = w0 == 0;
     if (w0) goto L2;
     t0 = I64_LOAD(m, l5 + 8u);
@@ -43813,8 +42986,8 @@ static void f163(Machine *m, u64 l0, u64 l1, u64 l2, u64 l3, u64 l4) {
     m->stack_pointer = t0;
 }
 
-/* bech32_near_edits::texts::text_with::<#df6d89c8f3fb8f8f> */
-static void f164(Machine *m, u64 l0, u64 l1, u64 l2, u64 l3, u64 l4, u64 l5, u64 l6, u64 l7) {
+/* bech32_near::edits::texts::text_with::<#067bb4531daaaff3> */
+static void f160(Machine *m, u64 l0, u64 l1, u64 l2, u64 l3, u64 l4, u64 l5, u64 l6, u64 l7) {
     u32 l14 = 0, w0, w1;
     u64 l8 = 0, l9 = 0, l10 = 0, l11 = 0, l12 = 0, l13 = 0, l15 = 0, l16 = 0, l17 = 0, t0, t1, t2;
     FRAME(m, 64u);
@@ -43856,7 +43029,7 @@ static void f164(Machine *m, u64 l0, u64 l1, u64 l2, u64 l3, u64 l4, u64 l5, u64
     goto L6;
     L7:;
     t0 = l9 + 8ull;
-    f162(m, t0, l1, l8, 1ull);
+    f158(m, t0, l1, l8, 1ull);
     t0 = I64_LOAD(m, l9 + 16u);
     l10 = t0;
     w0 = I32_LOAD8_U(m, l9 + 8u);
@@ -43882,7 +43055,7 @@ static void f164(Machine *m, u64 l0, u64 l1, u64 l2, u64 l3, u64 l4, u64 l5, u64
     w0 = l4 <= l12;
     if (w0) goto L8;
     t0 = l9 + 24ull;
-    w0 = f166(m, t0, l4);
+    w0 = f162(m, t0, l4);
     l14 = w0;
     t0 = I64_LOAD(m, l9 + 40u);
     l12 = t0;
@@ -44016,7 +43189,7 @@ static void f164(Machine *m, u64 l0, u64 l1, u64 l2, u64 l3, u64 l4, u64 l5, u64
     w0 = l6 <= t0;
     if (w0) goto L18;
     t0 = l9 + 24ull;
-    w0 = f166(m, t0, l6);
+    w0 = f162(m, t0, l6);
     l14 = w0;
     t0 = I64_LOAD(m, l9 + 40u);
     l12 = t0;
@@ -44054,7 +43227,7 @@ static void f164(Machine *m, u64 l0, u64 l1, u64 l2, u64 l3, u64 l4, u64 l5, u64
     w0 = l4 <= t0;
     if (w0) goto L21;
     t0 = l9 + 24ull;
-    w0 = f166(m, t0, l4);
+    w0 = f162(m, t0, l4);
     l14 = w0;
     t0 = I64_LOAD(m, l9 + 40u);
     l12 = t0;
@@ -44285,8 +43458,8 @@ static void f164(Machine *m, u64 l0, u64 l1, u64 l2, u64 l3, u64 l4, u64 l5, u64
     m->stack_pointer = t0;
 }
 
-/* std_alloc::vec::Vec::grow_amortized::<#c5e8767cddf86834> */
-static u32 f165(Machine *m, u64 l0) {
+/* std_alloc::vec::Vec::grow_amortized::<#ed34d635265b25e2> */
+static u32 f161(Machine *m, u64 l0) {
     u32 l2 = 0, l8 = 0, l10 = 0, w0;
     u64 l1 = 0, l3 = 0, l4 = 0, l5 = 0, l6 = 0, l7 = 0, l9 = 0, t0, t1;
     FRAME(m, 32u);
@@ -44323,7 +43496,7 @@ static u32 f165(Machine *m, u64 l0) {
     if (w0) goto L3;
     t0 = l1 + 16ull;
     t1 = I64_LOAD(m, l0);
-    f168(m, t0, l7, t1, l3, l5, l4);
+    f164(m, t0, l7, t1, l3, l5, l4);
     t0 = I64_LOAD(m, l1 + 24u);
     l3 = t0;
     w0 = I32_LOAD8_U(m, l1 + 16u);
@@ -44357,7 +43530,7 @@ static u32 f165(Machine *m, u64 l0) {
     l10 = 1u;
     goto L4;
     L5:;
-    f162(m, l1, l5, l3, 8ull);
+    f158(m, l1, l5, l3, 8ull);
     t0 = I64_LOAD(m, l1 + 8u);
     l3 = t0;
     w0 = I32_LOAD8_U(m, l1);
@@ -44396,8 +43569,8 @@ static u32 f165(Machine *m, u64 l0) {
     return 0;
 }
 
-/* std_alloc::vec::Vec::grow_amortized::<#ae54bd6492278016> */
-static u32 f166(Machine *m, u64 l0, u64 l1) {
+/* std_alloc::vec::Vec::grow_amortized::<#82f2535de3d3a45e> */
+static u32 f162(Machine *m, u64 l0, u64 l1) {
     u32 l3 = 0, l8 = 0, l10 = 0, w0;
     u64 l2 = 0, l4 = 0, l5 = 0, l6 = 0, l7 = 0, l9 = 0, t0, t1;
     FRAME(m, 32u);
@@ -44436,7 +43609,7 @@ static u32 f166(Machine *m, u64 l0, u64 l1) {
     if (w0) goto L3;
     t0 = l2 + 16ull;
     t1 = I64_LOAD(m, l0);
-    f167(m, t0, l7, t1, l4, l1, l5);
+    f163(m, t0, l7, t1, l4, l1, l5);
     t0 = I64_LOAD(m, l2 + 24u);
     l1 = t0;
     w0 = I32_LOAD8_U(m, l2 + 16u);
@@ -44467,7 +43640,7 @@ static u32 f166(Machine *m, u64 l0, u64 l1) {
     l10 = 1u;
     goto L4;
     L5:;
-    f162(m, l2, l4, l6, 1ull);
+    f158(m, l2, l4, l6, 1ull);
     t0 = I64_LOAD(m, l2 + 8u);
     l1 = t0;
     w0 = I32_LOAD8_U(m, l2);
@@ -44507,7 +43680,7 @@ static u32 f166(Machine *m, u64 l0, u64 l1) {
 }
 
 /* core::alloc::RefAllocator::grow::<#371c4b2a4c8033e4> */
-static void f167(Machine *m, u64 l0, u64 l1, u64 l2, u64 l3, u64 l4, u64 l5) {
+static void f163(Machine *m, u64 l0, u64 l1, u64 l2, u64 l3, u64 l4, u64 l5) {
     u32 l13 = 0, l14 = 0, w0;
     u64 l6 = 0, l7 = 0, l8 = 0, l9 = 0, l10 = 0, l11 = 0, l12 = 0, t0, t1;
     FRAME(m, 16u);
@@ -44629,7 +43802,7 @@ static void f167(Machine *m, u64 l0, u64 l1, u64 l2, u64 l3, u64 l4, u64 l5) {
     l13 = 1u;
     goto L3;
     L4:;
-    f162(m, l7, l8, l5, 1ull);
+    f158(m, l7, l8, l5, 1ull);
     t0 = I64_LOAD(m, l7 + 8u);
     l5 = t0;
     w0 = I32_LOAD8_U(m, l7);
@@ -44742,8 +43915,8 @@ static void f167(Machine *m, u64 l0, u64 l1, u64 l2, u64 l3, u64 l4, u64 l5) {
     return;
 }
 
-/* core::alloc::RefAllocator::grow::<#b74762bae5e30136> */
-static void f168(Machine *m, u64 l0, u64 l1, u64 l2, u64 l3, u64 l4, u64 l5) {
+/* core::alloc::RefAllocator::grow::<#1294afc55f6fc79c> */
+static void f164(Machine *m, u64 l0, u64 l1, u64 l2, u64 l3, u64 l4, u64 l5) {
     u32 l12 = 0, l19 = 0, w0;
     u64 l6 = 0, l7 = 0, l8 = 0, l9 = 0, l10 = 0, l11 = 0, l13 = 0, l14 = 0, l15 = 0, l16 = 0, l17 = 0, l18 = 0, t0, t1;
     FRAME(m, 16u);
@@ -44995,7 +44168,7 @@ static void f168(Machine *m, u64 l0, u64 l1, u64 l2, u64 l3, u64 l4, u64 l5) {
     l19 = 1u;
     goto L3;
     L4:;
-    f162(m, l7, l8, l1, 8ull);
+    f158(m, l7, l8, l1, 8ull);
     t0 = I64_LOAD(m, l7 + 8u);
     l15 = t0;
     w0 = I32_LOAD8_U(m, l7);
@@ -45224,7 +44397,7 @@ static void f168(Machine *m, u64 l0, u64 l1, u64 l2, u64 l3, u64 l4, u64 l5) {
 }
 
 /* bech32_calls::nearest::near_by::<#d9af4becdc7b27d5> */
-static void f169(Machine *m, u64 l0, u64 l1, u32 l2, u64 l3, u64 l4, u64 l5, u64 l6) {
+static void f165(Machine *m, u64 l0, u64 l1, u32 l2, u64 l3, u64 l4, u64 l5, u64 l6) {
     u32 l8 = 0, l14 = 0, l15 = 0, l16 = 0, l17 = 0, l18 = 0, l19 = 0, l20 = 0, l21 = 0, l22 = 0, l23 = 0, l24 = 0, l25 = 0, l26 = 0, w0, w1;
     u32 w2, w3;
     u64 l7 = 0, l9 = 0, l10 = 0, l11 = 0, l12 = 0, l13 = 0, l27 = 0, l28 = 0, l29 = 0, l30 = 0, l31 = 0, l32 = 0, l33 = 0, l34 = 0, l35 = 0, l36 = 0;
@@ -45303,7 +44476,7 @@ static void f169(Machine *m, u64 l0, u64 l1, u32 l2, u64 l3, u64 l4, u64 l5, u64
     I64_STORE(m, l7 + 696u, 0ull);
     I64_STORE(m, l7 + 688u, 0ull);
     t0 = l7 + 784ull;
-    f170(m, t0, l1, l4, l5, l9);
+    f166(m, t0, l1, l4, l5, l9);
     w0 = I32_LOAD8_U(m, l7 + 784u);
     if (w0) goto L11;
     w0 = I32_LOAD8_U(m, l7 + 792u);
@@ -45330,7 +44503,7 @@ static void f169(Machine *m, u64 l0, u64 l1, u32 l2, u64 l3, u64 l4, u64 l5, u64
     t3 = l2 ? 16ull : 64ull;
     t2 = t2 + t3;
     t2 = I64_LOAD(m, t2);
-    f171(m, t0, l1, 1537u, t1, t2);
+    f167(m, t0, l1, 1537u, t1, t2);
     w0 = I32_LOAD8_U(m, l7 + 688u);
     if (w0) goto L15;
     w0 = l8 >> 25;
@@ -45452,7 +44625,7 @@ static void f169(Machine *m, u64 l0, u64 l1, u32 l2, u64 l3, u64 l4, u64 l5, u64
     I64_STORE(m, l7 + 696u, 0ull);
     I64_STORE(m, l7 + 688u, 0ull);
     t0 = l7 + 784ull;
-    f170(m, t0, l1, l4, l5, l9);
+    f166(m, t0, l1, l4, l5, l9);
     w0 = I32_LOAD8_U(m, l7 + 784u);
     if (w0) goto L9;
     l8 = 1u;
@@ -45480,7 +44653,7 @@ static void f169(Machine *m, u64 l0, u64 l1, u32 l2, u64 l3, u64 l4, u64 l5, u64
     t3 = l2 ? 16ull : 64ull;
     t2 = t2 + t3;
     t2 = I64_LOAD(m, t2);
-    f171(m, t0, l1, 1537u, t1, t2);
+    f167(m, t0, l1, 1537u, t1, t2);
     w0 = I32_LOAD8_U(m, l7 + 688u);
     if (w0) goto L18;
     w0 = l20 ^ 734539939u;
@@ -45765,7 +44938,7 @@ static void f169(Machine *m, u64 l0, u64 l1, u32 l2, u64 l3, u64 l4, u64 l5, u64
     MEMORY_FILL(m, t0, 0u, 152ull);
     t0 = l7 + 784ull;
     t1 = l7 + 528ull;
-    f172(m, t0, t1);
+    f168(m, t0, t1);
     w0 = I32_LOAD8_U(m, l7 + 784u);
     if (w0) goto L37;
     w0 = I32_LOAD8_U(m, l7 + 792u);
@@ -45856,7 +45029,7 @@ static void f169(Machine *m, u64 l0, u64 l1, u32 l2, u64 l3, u64 l4, u64 l5, u64
     t0 = l7 + 1144ull;
     I64_STORE(m, l7 + 688u, t0);
     t0 = l7 + 688ull;
-    w0 = f173(m, t0);
+    w0 = f169(m, t0);
     if (w0) goto L26;
     w0 = l8 & 255u;
     w0 = w0 == 0;
@@ -46028,7 +45201,7 @@ static void f169(Machine *m, u64 l0, u64 l1, u32 l2, u64 l3, u64 l4, u64 l5, u64
     if (w0) goto L31;
     t0 = l7 + 952ull;
     t1 = l28 * 5ull;
-    w0 = f174(m, t0, t1);
+    w0 = f170(m, t0, t1);
     if (w0) goto L51;
     t0 = I64_LOAD(m, l7 + 968u);
     l4 = t0;
@@ -46203,7 +45376,7 @@ static void f169(Machine *m, u64 l0, u64 l1, u32 l2, u64 l3, u64 l4, u64 l5, u64
     w0 = t0 != l13;
     if (w0) goto L66;
     t0 = l7 + 688ull;
-    w0 = f175(m, t0);
+    w0 = f171(m, t0);
     w0 = w0 == 0;
     if (w0) goto L53;
     t0 = I64_LOAD(m, l7 + 688u);
@@ -46300,7 +45473,7 @@ static void f169(Machine *m, u64 l0, u64 l1, u32 l2, u64 l3, u64 l4, u64 l5, u64
     w0 = t0 != l13;
     if (w0) goto L73;
     t0 = l7 + 688ull;
-    w0 = f175(m, t0);
+    w0 = f171(m, t0);
     w0 = w0 == 0;
     if (w0) goto L53;
     t0 = I64_LOAD(m, l7 + 688u);
@@ -46386,7 +45559,7 @@ static void f169(Machine *m, u64 l0, u64 l1, u32 l2, u64 l3, u64 l4, u64 l5, u64
     L32:;
     t0 = l7 + 528ull;
     t1 = l7 + 752ull;
-    w0 = f176(m, t0, l6, l10, t1);
+    w0 = f172(m, t0, l6, l10, t1);
     l2 = w0;
     t0 = I64_LOAD(m, l7 + 752u);
     l9 = t0;
@@ -46548,7 +45721,7 @@ static void f169(Machine *m, u64 l0, u64 l1, u32 l2, u64 l3, u64 l4, u64 l5, u64
     w0 = l31 < 3689348814741910323ull;
     t1 = w0 ? l31 : 3689348814741910323ull;
     t1 = t1 * 5ull;
-    w0 = f177(m, t0, t1);
+    w0 = f173(m, t0, t1);
     if (w0) goto L88;
     t0 = I64_LOAD(m, l7 + 968u);
     l4 = t0;
@@ -46670,7 +45843,7 @@ static void f169(Machine *m, u64 l0, u64 l1, u32 l2, u64 l3, u64 l4, u64 l5, u64
     w0 = t0 != l5;
     if (w0) goto L96;
     t0 = l7 + 1112ull;
-    w0 = f178(m, t0);
+    w0 = f174(m, t0);
     w0 = w0 == 0;
     if (w0) goto L85;
     t0 = I64_LOAD(m, l7 + 1120u);
@@ -46759,7 +45932,7 @@ static void f169(Machine *m, u64 l0, u64 l1, u32 l2, u64 l3, u64 l4, u64 l5, u64
     w0 = t0 != l12;
     if (w0) goto L102;
     t0 = l7 + 1112ull;
-    w0 = f178(m, t0);
+    w0 = f174(m, t0);
     w0 = w0 == 0;
     if (w0) goto L85;
     t0 = I64_LOAD(m, l7 + 1112u);
@@ -46848,7 +46021,7 @@ static void f169(Machine *m, u64 l0, u64 l1, u32 l2, u64 l3, u64 l4, u64 l5, u64
     w0 = t0 != l12;
     if (w0) goto L108;
     t0 = l7 + 1112ull;
-    w0 = f178(m, t0);
+    w0 = f174(m, t0);
     w0 = w0 == 0;
     if (w0) goto L85;
     t0 = I64_LOAD(m, l7 + 1120u);
@@ -46937,7 +46110,7 @@ static void f169(Machine *m, u64 l0, u64 l1, u32 l2, u64 l3, u64 l4, u64 l5, u64
     w0 = t0 != l12;
     if (w0) goto L114;
     t0 = l7 + 1112ull;
-    w0 = f178(m, t0);
+    w0 = f174(m, t0);
     w0 = w0 == 0;
     if (w0) goto L85;
     t0 = I64_LOAD(m, l7 + 1112u);
@@ -47026,7 +46199,7 @@ static void f169(Machine *m, u64 l0, u64 l1, u32 l2, u64 l3, u64 l4, u64 l5, u64
     w0 = t0 != l12;
     if (w0) goto L120;
     t0 = l7 + 1112ull;
-    w0 = f178(m, t0);
+    w0 = f174(m, t0);
     w0 = w0 == 0;
     if (w0) goto L85;
     t0 = I64_LOAD(m, l7 + 1120u);
@@ -47064,7 +46237,7 @@ static void f169(Machine *m, u64 l0, u64 l1, u32 l2, u64 l3, u64 l4, u64 l5, u64
     w0 = t0 != l12;
     if (w0) goto L122;
     t0 = l7 + 1112ull;
-    w0 = f178(m, t0);
+    w0 = f174(m, t0);
     w0 = w0 == 0;
     if (w0) goto L85;
     t0 = I64_LOAD(m, l7 + 1120u);
@@ -47100,7 +46273,7 @@ static void f169(Machine *m, u64 l0, u64 l1, u32 l2, u64 l3, u64 l4, u64 l5, u64
     w0 = t0 != l12;
     if (w0) goto L124;
     t0 = l7 + 1112ull;
-    w0 = f178(m, t0);
+    w0 = f174(m, t0);
     w0 = w0 == 0;
     if (w0) goto L85;
     t0 = I64_LOAD(m, l7 + 1112u);
@@ -47136,7 +46309,7 @@ static void f169(Machine *m, u64 l0, u64 l1, u32 l2, u64 l3, u64 l4, u64 l5, u64
     w0 = t0 != l12;
     if (w0) goto L126;
     t0 = l7 + 1112ull;
-    w0 = f178(m, t0);
+    w0 = f174(m, t0);
     w0 = w0 == 0;
     if (w0) goto L85;
     t0 = I64_LOAD(m, l7 + 1120u);
@@ -47172,7 +46345,7 @@ static void f169(Machine *m, u64 l0, u64 l1, u32 l2, u64 l3, u64 l4, u64 l5, u64
     w0 = t0 != l12;
     if (w0) goto L128;
     t0 = l7 + 1112ull;
-    w0 = f178(m, t0);
+    w0 = f174(m, t0);
     w0 = w0 == 0;
     if (w0) goto L85;
     t0 = I64_LOAD(m, l7 + 1112u);
@@ -47207,7 +46380,7 @@ static void f169(Machine *m, u64 l0, u64 l1, u32 l2, u64 l3, u64 l4, u64 l5, u64
     w0 = t0 != l12;
     if (w0) goto L130;
     t0 = l7 + 1112ull;
-    w0 = f178(m, t0);
+    w0 = f174(m, t0);
     w0 = w0 == 0;
     if (w0) goto L85;
     t0 = I64_LOAD(m, l7 + 1120u);
@@ -47248,7 +46421,7 @@ static void f169(Machine *m, u64 l0, u64 l1, u32 l2, u64 l3, u64 l4, u64 l5, u64
     t2 = w0 ? 32ull : 72ull;
     t1 = t1 + t2;
     t1 = I64_LOAD(m, t1);
-    f179(m, t0, t1, l9, l12);
+    f175(m, t0, t1, l9, l12);
     w0 = I32_LOAD8_U(m, l7 + 688u);
     if (w0) goto L83;
     t0 = I64_LOAD(m, l7 + 720u);
@@ -47263,7 +46436,7 @@ static void f169(Machine *m, u64 l0, u64 l1, u32 l2, u64 l3, u64 l4, u64 l5, u64
     if (w0) goto L82;
     t0 = l7 + 528ull;
     t1 = l7 + 752ull;
-    w0 = f180(m, t0, l30, l13, l11, l28, l10, t1);
+    w0 = f176(m, t0, l30, l13, l11, l28, l10, t1);
     l2 = w0;
     w0 = l39 == 0;
     if (w0) goto L131;
@@ -47395,7 +46568,7 @@ static void f169(Machine *m, u64 l0, u64 l1, u32 l2, u64 l3, u64 l4, u64 l5, u64
     w0 = t0 != 0ull;
     if (w0) goto L138;
     t0 = l7 + 648ull;
-    w0 = f144(m, t0);
+    w0 = f145(m, t0);
     w0 = w0 == 0;
     if (w0) goto L137;
     t0 = l7 + 528ull;
@@ -47409,7 +46582,7 @@ static void f169(Machine *m, u64 l0, u64 l1, u32 l2, u64 l3, u64 l4, u64 l5, u64
     w0 = t0 != l5;
     if (w0) goto L139;
     t0 = l7 + 752ull;
-    w0 = f181(m, t0);
+    w0 = f169(m, t0);
     if (w0) goto L140;
     l8 = 1u;
     goto L136;
@@ -47430,7 +46603,7 @@ static void f169(Machine *m, u64 l0, u64 l1, u32 l2, u64 l3, u64 l4, u64 l5, u64
     L138:;
     t0 = l7 + 528ull;
     t1 = l7 + 752ull;
-    w0 = f182(m, t0, 0ull, 0ull, t1);
+    w0 = f177(m, t0, 0ull, 0ull, t1);
     w0 = w0 & 255u;
     w0 = w0 == 0;
     if (w0) goto L137;
@@ -47731,7 +46904,7 @@ static void f169(Machine *m, u64 l0, u64 l1, u32 l2, u64 l3, u64 l4, u64 l5, u64
     goto L162;
     L163:;
     t0 = l7 + 16ull;
-    f162(m, t0, l5, 544ull, 8ull);
+    f158(m, t0, l5, 544ull, 8ull);
     t0 = I64_LOAD(m, l7 + 24u);
     l4 = t0;
     w0 = I32_LOAD8_U(m, l7 + 16u);
@@ -47755,7 +46928,7 @@ static void f169(Machine *m, u64 l0, u64 l1, u32 l2, u64 l3, u64 l4, u64 l5, u64
     I64_STORE(m, l7 + 1112u, l4);
     t0 = l7 + 784ull;
     t1 = l7 + 528ull;
-    f183(m, t0, t1, l31, l2);
+    f178(m, t0, t1, l31, l2);
     w0 = I32_LOAD8_U(m, l7 + 784u);
     if (w0) goto L147;
     t0 = l7 + 952ull;
@@ -47763,11 +46936,11 @@ static void f169(Machine *m, u64 l0, u64 l1, u32 l2, u64 l3, u64 l4, u64 l5, u64
     t0 = l7 + 528ull;
     t1 = l7 + 952ull;
     t2 = l7 + 1112ull;
-    w0 = f180(m, t1, l30, l13, l11, l28, l31, t2);
+    w0 = f176(m, t1, l30, l13, l11, l28, l31, t2);
     w0 = w0 & 255u;
     t1 = l7 + 1112ull;
     t2 = l7 + 752ull;
-    w0 = f184(m, t0, w0, t1, l31, l2, t2);
+    w0 = f179(m, t0, w0, t1, l31, l2, t2);
     l20 = w0;
     w0 = I32_LOAD8_U(m, l7 + 952u);
     w0 = w0 != 1u;
@@ -48256,7 +47429,7 @@ static void f169(Machine *m, u64 l0, u64 l1, u32 l2, u64 l3, u64 l4, u64 l5, u64
     t1 = I64_LOAD(m, l3);
     t2 = I64_LOAD(m, l3 + 8u);
     t3 = l7 + 152ull;
-    f185(m, t0, l1, t1, t2, t3);
+    f180(m, t0, l1, t1, t2, t3);
     w0 = I32_LOAD8_U(m, l7 + 184u);
     if (w0) goto L22;
     t0 = I64_LOAD(m, l7 + 216u);
@@ -48440,7 +47613,7 @@ static void f169(Machine *m, u64 l0, u64 l1, u32 l2, u64 l3, u64 l4, u64 l5, u64
     MEMORY_FILL(m, t0, 0u, 152ull);
     t0 = l7 + 784ull;
     t1 = l7 + 528ull;
-    f186(m, t0, t1);
+    f181(m, t0, t1);
     w0 = I32_LOAD8_U(m, l7 + 784u);
     if (w0) goto L201;
     w0 = I32_LOAD8_U(m, l7 + 792u);
@@ -48531,7 +47704,7 @@ static void f169(Machine *m, u64 l0, u64 l1, u32 l2, u64 l3, u64 l4, u64 l5, u64
     t0 = l7 + 1144ull;
     I64_STORE(m, l7 + 688u, t0);
     t0 = l7 + 688ull;
-    w0 = f173(m, t0);
+    w0 = f169(m, t0);
     if (w0) goto L190;
     w0 = l8 & 255u;
     w0 = w0 == 0;
@@ -48703,7 +47876,7 @@ static void f169(Machine *m, u64 l0, u64 l1, u32 l2, u64 l3, u64 l4, u64 l5, u64
     if (w0) goto L195;
     t0 = l7 + 952ull;
     t1 = l27 * 5ull;
-    w0 = f174(m, t0, t1);
+    w0 = f170(m, t0, t1);
     if (w0) goto L215;
     t0 = I64_LOAD(m, l7 + 968u);
     l4 = t0;
@@ -48878,7 +48051,7 @@ static void f169(Machine *m, u64 l0, u64 l1, u32 l2, u64 l3, u64 l4, u64 l5, u64
     w0 = t0 != l13;
     if (w0) goto L230;
     t0 = l7 + 688ull;
-    w0 = f175(m, t0);
+    w0 = f171(m, t0);
     w0 = w0 == 0;
     if (w0) goto L217;
     t0 = I64_LOAD(m, l7 + 688u);
@@ -48975,7 +48148,7 @@ static void f169(Machine *m, u64 l0, u64 l1, u32 l2, u64 l3, u64 l4, u64 l5, u64
     w0 = t0 != l13;
     if (w0) goto L237;
     t0 = l7 + 688ull;
-    w0 = f175(m, t0);
+    w0 = f171(m, t0);
     w0 = w0 == 0;
     if (w0) goto L217;
     t0 = I64_LOAD(m, l7 + 688u);
@@ -49061,7 +48234,7 @@ static void f169(Machine *m, u64 l0, u64 l1, u32 l2, u64 l3, u64 l4, u64 l5, u64
     L196:;
     t0 = l7 + 528ull;
     t1 = l7 + 752ull;
-    w0 = f187(m, t0, l6, l31, t1);
+    w0 = f182(m, t0, l6, l31, t1);
     l2 = w0;
     t0 = I64_LOAD(m, l7 + 752u);
     l9 = t0;
@@ -49223,7 +48396,7 @@ static void f169(Machine *m, u64 l0, u64 l1, u32 l2, u64 l3, u64 l4, u64 l5, u64
     w0 = l3 < 3689348814741910323ull;
     t1 = w0 ? l3 : 3689348814741910323ull;
     t1 = t1 * 5ull;
-    w0 = f177(m, t0, t1);
+    w0 = f173(m, t0, t1);
     if (w0) goto L252;
     t0 = I64_LOAD(m, l7 + 968u);
     l4 = t0;
@@ -49345,7 +48518,7 @@ static void f169(Machine *m, u64 l0, u64 l1, u32 l2, u64 l3, u64 l4, u64 l5, u64
     w0 = t0 != l5;
     if (w0) goto L260;
     t0 = l7 + 1112ull;
-    w0 = f178(m, t0);
+    w0 = f174(m, t0);
     w0 = w0 == 0;
     if (w0) goto L249;
     t0 = I64_LOAD(m, l7 + 1120u);
@@ -49434,7 +48607,7 @@ static void f169(Machine *m, u64 l0, u64 l1, u32 l2, u64 l3, u64 l4, u64 l5, u64
     w0 = t0 != l12;
     if (w0) goto L266;
     t0 = l7 + 1112ull;
-    w0 = f178(m, t0);
+    w0 = f174(m, t0);
     w0 = w0 == 0;
     if (w0) goto L249;
     t0 = I64_LOAD(m, l7 + 1112u);
@@ -49523,7 +48696,7 @@ static void f169(Machine *m, u64 l0, u64 l1, u32 l2, u64 l3, u64 l4, u64 l5, u64
     w0 = t0 != l12;
     if (w0) goto L272;
     t0 = l7 + 1112ull;
-    w0 = f178(m, t0);
+    w0 = f174(m, t0);
     w0 = w0 == 0;
     if (w0) goto L249;
     t0 = I64_LOAD(m, l7 + 1120u);
@@ -49612,7 +48785,7 @@ static void f169(Machine *m, u64 l0, u64 l1, u32 l2, u64 l3, u64 l4, u64 l5, u64
     w0 = t0 != l12;
     if (w0) goto L278;
     t0 = l7 + 1112ull;
-    w0 = f178(m, t0);
+    w0 = f174(m, t0);
     w0 = w0 == 0;
     if (w0) goto L249;
     t0 = I64_LOAD(m, l7 + 1112u);
@@ -49701,7 +48874,7 @@ static void f169(Machine *m, u64 l0, u64 l1, u32 l2, u64 l3, u64 l4, u64 l5, u64
     w0 = t0 != l12;
     if (w0) goto L284;
     t0 = l7 + 1112ull;
-    w0 = f178(m, t0);
+    w0 = f174(m, t0);
     w0 = w0 == 0;
     if (w0) goto L249;
     t0 = I64_LOAD(m, l7 + 1120u);
@@ -49739,7 +48912,7 @@ static void f169(Machine *m, u64 l0, u64 l1, u32 l2, u64 l3, u64 l4, u64 l5, u64
     w0 = t0 != l12;
     if (w0) goto L286;
     t0 = l7 + 1112ull;
-    w0 = f178(m, t0);
+    w0 = f174(m, t0);
     w0 = w0 == 0;
     if (w0) goto L249;
     t0 = I64_LOAD(m, l7 + 1120u);
@@ -49775,7 +48948,7 @@ static void f169(Machine *m, u64 l0, u64 l1, u32 l2, u64 l3, u64 l4, u64 l5, u64
     w0 = t0 != l12;
     if (w0) goto L288;
     t0 = l7 + 1112ull;
-    w0 = f178(m, t0);
+    w0 = f174(m, t0);
     w0 = w0 == 0;
     if (w0) goto L249;
     t0 = I64_LOAD(m, l7 + 1112u);
@@ -49811,7 +48984,7 @@ static void f169(Machine *m, u64 l0, u64 l1, u32 l2, u64 l3, u64 l4, u64 l5, u64
     w0 = t0 != l12;
     if (w0) goto L290;
     t0 = l7 + 1112ull;
-    w0 = f178(m, t0);
+    w0 = f174(m, t0);
     w0 = w0 == 0;
     if (w0) goto L249;
     t0 = I64_LOAD(m, l7 + 1120u);
@@ -49847,7 +49020,7 @@ static void f169(Machine *m, u64 l0, u64 l1, u32 l2, u64 l3, u64 l4, u64 l5, u64
     w0 = t0 != l12;
     if (w0) goto L292;
     t0 = l7 + 1112ull;
-    w0 = f178(m, t0);
+    w0 = f174(m, t0);
     w0 = w0 == 0;
     if (w0) goto L249;
     t0 = I64_LOAD(m, l7 + 1112u);
@@ -49882,7 +49055,7 @@ static void f169(Machine *m, u64 l0, u64 l1, u32 l2, u64 l3, u64 l4, u64 l5, u64
     w0 = t0 != l12;
     if (w0) goto L294;
     t0 = l7 + 1112ull;
-    w0 = f178(m, t0);
+    w0 = f174(m, t0);
     w0 = w0 == 0;
     if (w0) goto L249;
     t0 = I64_LOAD(m, l7 + 1120u);
@@ -49923,7 +49096,7 @@ static void f169(Machine *m, u64 l0, u64 l1, u32 l2, u64 l3, u64 l4, u64 l5, u64
     t2 = w0 ? 32ull : 72ull;
     t1 = t1 + t2;
     t1 = I64_LOAD(m, t1);
-    f179(m, t0, t1, l9, l12);
+    f175(m, t0, t1, l9, l12);
     w0 = I32_LOAD8_U(m, l7 + 688u);
     if (w0) goto L247;
     t0 = I64_LOAD(m, l7 + 720u);
@@ -49938,7 +49111,7 @@ static void f169(Machine *m, u64 l0, u64 l1, u32 l2, u64 l3, u64 l4, u64 l5, u64
     if (w0) goto L246;
     t0 = l7 + 528ull;
     t1 = l7 + 752ull;
-    w0 = f188(m, t0, l30, l13, l35, l27, l31, t1);
+    w0 = f183(m, t0, l30, l13, l35, l27, l31, t1);
     l2 = w0;
     w0 = l44 == 0;
     if (w0) goto L295;
@@ -50070,7 +49243,7 @@ static void f169(Machine *m, u64 l0, u64 l1, u32 l2, u64 l3, u64 l4, u64 l5, u64
     w0 = t0 != 0ull;
     if (w0) goto L302;
     t0 = l7 + 648ull;
-    w0 = f144(m, t0);
+    w0 = f145(m, t0);
     w0 = w0 == 0;
     if (w0) goto L301;
     t0 = l7 + 528ull;
@@ -50084,7 +49257,7 @@ static void f169(Machine *m, u64 l0, u64 l1, u32 l2, u64 l3, u64 l4, u64 l5, u64
     w0 = t0 != l5;
     if (w0) goto L303;
     t0 = l7 + 752ull;
-    w0 = f181(m, t0);
+    w0 = f169(m, t0);
     if (w0) goto L304;
     l8 = 1u;
     goto L300;
@@ -50105,7 +49278,7 @@ static void f169(Machine *m, u64 l0, u64 l1, u32 l2, u64 l3, u64 l4, u64 l5, u64
     L302:;
     t0 = l7 + 528ull;
     t1 = l7 + 752ull;
-    w0 = f189(m, t0, 0ull, 0ull, t1);
+    w0 = f184(m, t0, 0ull, 0ull, t1);
     w0 = w0 & 255u;
     w0 = w0 == 0;
     if (w0) goto L301;
@@ -50405,7 +49578,7 @@ static void f169(Machine *m, u64 l0, u64 l1, u32 l2, u64 l3, u64 l4, u64 l5, u64
     l20 = 1u;
     goto L326;
     L327:;
-    f162(m, l7, l5, 544ull, 8ull);
+    f158(m, l7, l5, 544ull, 8ull);
     t0 = I64_LOAD(m, l7 + 8u);
     l4 = t0;
     w0 = I32_LOAD8_U(m, l7);
@@ -50429,7 +49602,7 @@ static void f169(Machine *m, u64 l0, u64 l1, u32 l2, u64 l3, u64 l4, u64 l5, u64
     I64_STORE(m, l7 + 1112u, l4);
     t0 = l7 + 784ull;
     t1 = l7 + 528ull;
-    f190(m, t0, t1, l3, l2);
+    f185(m, t0, t1, l3, l2);
     w0 = I32_LOAD8_U(m, l7 + 784u);
     if (w0) goto L311;
     t0 = l7 + 952ull;
@@ -50437,11 +49610,11 @@ static void f169(Machine *m, u64 l0, u64 l1, u32 l2, u64 l3, u64 l4, u64 l5, u64
     t0 = l7 + 528ull;
     t1 = l7 + 952ull;
     t2 = l7 + 1112ull;
-    w0 = f188(m, t1, l30, l13, l35, l27, l3, t2);
+    w0 = f183(m, t1, l30, l13, l35, l27, l3, t2);
     w0 = w0 & 255u;
     t1 = l7 + 1112ull;
     t2 = l7 + 752ull;
-    w0 = f191(m, t0, w0, t1, l3, l2, t2);
+    w0 = f186(m, t0, w0, t1, l3, l2, t2);
     l20 = w0;
     w0 = I32_LOAD8_U(m, l7 + 952u);
     w0 = w0 != 1u;
@@ -50928,7 +50101,7 @@ static void f169(Machine *m, u64 l0, u64 l1, u32 l2, u64 l3, u64 l4, u64 l5, u64
     I64_STORE(m, l7 + 176u, l4);
     t0 = l7 + 184ull;
     t1 = l7 + 152ull;
-    f185(m, t0, l1, l11, l10, t1);
+    f180(m, t0, l1, l11, l10, t1);
     w0 = I32_LOAD8_U(m, l7 + 184u);
     if (w0) goto L186;
     t0 = I64_LOAD(m, l7 + 216u);
@@ -50979,7 +50152,7 @@ static void f169(Machine *m, u64 l0, u64 l1, u32 l2, u64 l3, u64 l4, u64 l5, u64
 }
 
 /* bech32_correction::erasures::distinct_below::<#7a7b4d3859a9cb38> */
-static void f170(Machine *m, u64 l0, u64 l1, u64 l2, u64 l3, u64 l4) {
+static void f166(Machine *m, u64 l0, u64 l1, u64 l2, u64 l3, u64 l4) {
     u32 l10 = 0, l14 = 0, w0, w1, w2, w3;
     u64 l5 = 0, l6 = 0, l7 = 0, l8 = 0, l9 = 0, l11 = 0, l12 = 0, l13 = 0, l15 = 0, t0, t1, t2;
     FRAME(m, 144u);
@@ -51158,7 +50331,7 @@ static void f170(Machine *m, u64 l0, u64 l1, u64 l2, u64 l3, u64 l4) {
     w0 = l11 != t0;
     if (w0) goto L19;
     t0 = l6 + 64ull;
-    w0 = f192(m, t0);
+    w0 = f187(m, t0);
     l14 = w0;
     w0 = I32_LOAD8_U(m, l6 + 64u);
     l10 = w0;
@@ -51303,7 +50476,7 @@ static void f170(Machine *m, u64 l0, u64 l1, u64 l2, u64 l3, u64 l4) {
 }
 
 /* bech32_bch::terms::locators_of::<#7e90339e1e86e315> */
-static void f171(Machine *m, u64 l0, u64 l1, u32 l2, u64 l3, u64 l4) {
+static void f167(Machine *m, u64 l0, u64 l1, u32 l2, u64 l3, u64 l4) {
     u32 l8 = 0, l9 = 0, l10 = 0, l11 = 0, l12 = 0, l13 = 0, l14 = 0, w0, w1;
     u64 l5 = 0, l6 = 0, l7 = 0, t0, t1, t2;
     FRAME(m, 48u);
@@ -51489,7 +50662,7 @@ static void f171(Machine *m, u64 l0, u64 l1, u32 l2, u64 l3, u64 l4) {
     w0 = t0 != t1;
     if (w0) goto L17;
     t0 = l6 + 8ull;
-    w0 = f195(m, t0);
+    w0 = f190(m, t0);
     l12 = w0;
     w0 = I32_LOAD8_U(m, l6 + 8u);
     l9 = w0;
@@ -51595,7 +50768,7 @@ static void f171(Machine *m, u64 l0, u64 l1, u32 l2, u64 l3, u64 l4) {
 }
 
 /* bech32_correction::corrector::Corrector::listing::<#fd0d13fdebc37c5c> */
-static void f172(Machine *m, u64 l0, u64 l1) {
+static void f168(Machine *m, u64 l0, u64 l1) {
     u32 l3 = 0, l9 = 0, l10 = 0, l11 = 0, w0, w1;
     u64 l2 = 0, l4 = 0, l5 = 0, l6 = 0, l7 = 0, l8 = 0, l12 = 0, l13 = 0, l14 = 0, t0, t1, t2;
     FRAME(m, 1248u);
@@ -51901,7 +51074,7 @@ static void f172(Machine *m, u64 l0, u64 l1) {
     w0 = t0 != 7ull;
     if (w0) goto L39;
     t0 = l2 + 1064ull;
-    w0 = f199(m, t0);
+    w0 = f194(m, t0);
     l9 = w0;
     w0 = I32_LOAD8_U(m, l2 + 1064u);
     l10 = w0;
@@ -52305,7 +51478,7 @@ static void f172(Machine *m, u64 l0, u64 l1) {
     I64_STORE(m, l2 + 1016u, l14);
     t0 = l2 + 1064ull;
     t1 = l2 + 968ull;
-    f200(m, t0, l4, t1, l14);
+    f195(m, t0, l4, t1, l14);
     w0 = I32_LOAD8_U(m, l2 + 1064u);
     if (w0) goto L58;
     w0 = I32_LOAD8_U(m, l2 + 1072u);
@@ -52499,7 +51672,7 @@ static void f172(Machine *m, u64 l0, u64 l1) {
     t0 = l2 + 1064ull;
     t1 = I64_LOAD(m, l7);
     t2 = l2 + 544ull;
-    f201(m, t0, l4, l12, t1, t2);
+    f196(m, t0, l4, l12, t1, t2);
     w0 = I32_LOAD8_U(m, l2 + 1064u);
     if (w0) goto L72;
     w0 = I32_LOAD8_U(m, l2 + 1072u);
@@ -52520,7 +51693,7 @@ static void f172(Machine *m, u64 l0, u64 l1) {
     L65:;
     t0 = l2 + 392ull;
     t1 = l1 + 80ull;
-    f226(m, t0, l4, l5, l7, l1, t1);
+    f221(m, t0, l4, l5, l7, l1, t1);
     w0 = I32_LOAD8_U(m, l2 + 408u);
     l9 = w0;
     w0 = I32_LOAD8_U(m, l2 + 400u);
@@ -52560,118 +51733,38 @@ static void f172(Machine *m, u64 l0, u64 l1) {
 }
 
 /* std_alloc::vec::Vec::grow_amortized::<#be7779d8f3d8b816> */
-static u32 f173(Machine *m, u64 l0) {
-    u32 l2 = 0, l8 = 0, l10 = 0, w0;
-    u64 l1 = 0, l3 = 0, l4 = 0, l5 = 0, l6 = 0, l7 = 0, l9 = 0, t0, t1;
-    FRAME(m, 32u);
-    t0 = m->stack_pointer;
-    t0 = t0 - 32ull;
-    l1 = t0;
-    m->stack_pointer = l1;
-    l2 = 0u;
+static u32 f169(Machine *m, u64 l0) {
+    u32 l5 = 0, w0;
+    u64 l2 = 0, l3 = 0, l4 = 0, t0;
     t0 = l0 + 8ull;
     t0 = I64_LOAD(m, t0);
-    l3 = t0;
-    w0 = l3 == 18446744073709551615ull;
+    l2 = t0;
+    w0 = l2 != 18446744073709551615ull;
     if (w0) goto L1;
-    w0 = l3 > 3ull;
-    t0 = w0 ? l3 : 3ull;
-    t0 = t0 + 1ull;
-    l4 = t0;
-    t0 = l0 + 16ull;
-    t0 = I64_LOAD(m, t0);
-    l5 = t0;
-    t0 = l5 << 1;
-    l6 = t0;
-    w0 = l4 > l6;
-    t0 = w0 ? l4 : l6;
-    l6 = t0;
-    w0 = l5 < 4611686018427387904ull;
-    t0 = w0 ? l6 : l4;
-    l4 = t0;
-    w0 = l4 > 67818912035696880ull;
-    if (w0) goto L1;
-    t0 = l0 + 24ull;
-    l7 = t0;
-    w0 = l5 == 0;
-    if (w0) goto L3;
-    t0 = l1 + 16ull;
-    t1 = I64_LOAD(m, l0);
-    f212(m, t0, l7, t1, l3, l5, l4);
-    t0 = I64_LOAD(m, l1 + 24u);
-    l3 = t0;
-    w0 = I32_LOAD8_U(m, l1 + 16u);
-    l8 = w0;
-    goto L2;
-    L3:;
-    t0 = l6 * 136ull;
-    l3 = t0;
-    t0 = I64_LOAD(m, l7);
-    l5 = t0;
-    t0 = l5 + 16ull;
-    t0 = I64_LOAD(m, t0);
-    w0 = t0 == 0;
-    if (w0) goto L5;
-    t0 = l5 + 8ull;
-    t0 = I64_LOAD(m, t0);
-    l6 = t0;
-    t0 = l6 + 32ull;
-    l7 = t0;
-    t0 = I64_LOAD(m, l7);
-    t0 = t0 & 18446744073709551608ull;
-    l9 = t0;
-    w0 = l9 < l3;
-    if (w0) goto L5;
-    t0 = l9 - l3;
-    l3 = t0;
-    I64_STORE(m, l7, l3);
-    t0 = I64_LOAD(m, l6);
-    t0 = t0 + l3;
-    l3 = t0;
-    l10 = 1u;
-    goto L4;
-    L5:;
-    f162(m, l1, l5, l3, 8ull);
-    t0 = I64_LOAD(m, l1 + 8u);
-    l3 = t0;
-    w0 = I32_LOAD8_U(m, l1);
-    l10 = w0;
-    L4:;
-    l8 = 1u;
-    w0 = l10 & 1u;
-    if (w0) goto L6;
-    l3 = 0ull;
-    goto L2;
-    L6:;
-    t0 = l5 + 24ull;
-    l5 = t0;
-    t0 = I64_LOAD(m, l5);
-    l6 = t0;
-    w0 = l6 != 18446744073709551615ull;
-    if (w0) goto L7;
-    l3 = 0ull;
-    goto L2;
-    L7:;
-    t0 = l6 + 1ull;
-    I64_STORE(m, l5, t0);
-    l8 = 0u;
-    L2:;
-    w0 = l8 & 255u;
-    if (w0) goto L1;
-    t0 = l0 + 16ull;
-    I64_STORE(m, t0, l4);
-    I64_STORE(m, l0, l3);
-    l2 = 1u;
+    return 0u;
     L1:;
-    t0 = l1 + 32ull;
-    m->stack_pointer = t0;
-    return l2;
+    w0 = l2 > 3ull;
+    t0 = w0 ? l2 : 3ull;
+    t0 = t0 + 1ull;
+    l2 = t0;
+    t0 = l0 + 16ull;
+    t0 = I64_LOAD(m, t0);
+    l3 = t0;
+    t0 = l3 << 1;
+    l4 = t0;
+    w0 = l2 > l4;
+    t0 = w0 ? l2 : l4;
+    w0 = l3 < 4611686018427387904ull;
+    t0 = w0 ? t0 : l2;
+    w0 = f208(m, l0, t0);
+    l5 = w0;
+    return l5;
     TRAP(m);
     return 0;
 }
 
-/* std_alloc::vec::Vec::move_to::<#50808e1e8920b4d7> */
-static u32 f174(Machine *m, u64 l0, u64 l1) {
+/* std_alloc::vec::Vec::move_to::<#60c5024bbb6da01b> */
+static u32 f170(Machine *m, u64 l0, u64 l1) {
     u32 l3 = 0, l6 = 0, l10 = 0, w0;
     u64 l2 = 0, l4 = 0, l5 = 0, l7 = 0, l8 = 0, l9 = 0, t0, t1, t2;
     FRAME(m, 32u);
@@ -52693,7 +51786,7 @@ static u32 f174(Machine *m, u64 l0, u64 l1) {
     t1 = I64_LOAD(m, l0);
     t2 = l0 + 8ull;
     t2 = I64_LOAD(m, t2);
-    f213(m, t0, l4, t1, t2, l5, l1);
+    f210(m, t0, l4, t1, t2, l5, l1);
     t0 = I64_LOAD(m, l2 + 24u);
     l4 = t0;
     w0 = I32_LOAD8_U(m, l2 + 16u);
@@ -52727,7 +51820,7 @@ static u32 f174(Machine *m, u64 l0, u64 l1) {
     l10 = 1u;
     goto L4;
     L5:;
-    f162(m, l2, l7, l5, 8ull);
+    f158(m, l2, l7, l5, 8ull);
     t0 = I64_LOAD(m, l2 + 8u);
     l4 = t0;
     w0 = I32_LOAD8_U(m, l2);
@@ -52766,8 +51859,8 @@ static u32 f174(Machine *m, u64 l0, u64 l1) {
     return 0;
 }
 
-/* std_alloc::vec::Vec::grow_amortized::<#50808e1e8920b4d7> */
-static u32 f175(Machine *m, u64 l0) {
+/* std_alloc::vec::Vec::grow_amortized::<#60c5024bbb6da01b> */
+static u32 f171(Machine *m, u64 l0) {
     u32 l5 = 0, w0;
     u64 l2 = 0, l3 = 0, l4 = 0, t0;
     t0 = l0 + 8ull;
@@ -52790,15 +51883,15 @@ static u32 f175(Machine *m, u64 l0) {
     t0 = w0 ? l2 : l4;
     w0 = l3 < 4611686018427387904ull;
     t0 = w0 ? t0 : l2;
-    w0 = f174(m, l0, t0);
+    w0 = f170(m, l0, t0);
     l5 = w0;
     return l5;
     TRAP(m);
     return 0;
 }
 
-/* bech32_near_search::gathering::gather::<#fd0d13fdebc37c5c> */
-static u32 f176(Machine *m, u64 l0, u64 l1, u64 l2, u64 l3) {
+/* bech32_near::search::gathering::gather::<#fd0d13fdebc37c5c> */
+static u32 f172(Machine *m, u64 l0, u64 l1, u64 l2, u64 l3) {
     u32 l6 = 0, l37 = 0, l41 = 0, l42 = 0, l43 = 0, l45 = 0, l46 = 0, w0, w1, w2, w3;
     u64 l4 = 0, l5 = 0, l7 = 0, l8 = 0, l9 = 0, l10 = 0, l11 = 0, l12 = 0, l13 = 0, l14 = 0, l15 = 0, l16 = 0, l17 = 0, l18 = 0, l19 = 0, l20 = 0;
     u64 l21 = 0, l22 = 0, l23 = 0, l24 = 0, l25 = 0, l26 = 0, l27 = 0, l28 = 0, l29 = 0, l30 = 0, l31 = 0, l32 = 0, l33 = 0, l34 = 0, l35 = 0, l36 = 0;
@@ -52821,7 +51914,7 @@ static u32 f176(Machine *m, u64 l0, u64 l1, u64 l2, u64 l3) {
     t0 = t0 >> 1;
     w0 = l1 > t0;
     if (w0) goto L3;
-    w0 = f182(m, l0, l1, l2, l3);
+    w0 = f177(m, l0, l1, l2, l3);
     w0 = w0 & 255u;
     l6 = w0;
     goto L0;
@@ -52830,14 +51923,14 @@ static u32 f176(Machine *m, u64 l0, u64 l1, u64 l2, u64 l3) {
     if (w0) goto L4;
     w0 = l4 == 0;
     if (w0) goto L6;
-    w0 = f182(m, l0, 0ull, 0ull, l3);
+    w0 = f177(m, l0, 0ull, 0ull, l3);
     w0 = w0 & 255u;
     w0 = w0 == 0;
     if (w0) goto L5;
     goto L1;
     L6:;
     t0 = l0 + 120ull;
-    w0 = f144(m, t0);
+    w0 = f145(m, t0);
     w0 = w0 == 0;
     if (w0) goto L5;
     t0 = l6 ? 32ull : 72ull;
@@ -52852,7 +51945,7 @@ static u32 f176(Machine *m, u64 l0, u64 l1, u64 l2, u64 l3) {
     l4 = t1;
     w0 = t0 != l4;
     if (w0) goto L7;
-    w0 = f181(m, l3);
+    w0 = f169(m, l3);
     w0 = w0 == 0;
     if (w0) goto L1;
     t0 = l3 + 8ull;
@@ -53028,97 +52121,97 @@ static u32 f176(Machine *m, u64 l0, u64 l1, u64 l2, u64 l3) {
     if (w0) goto L16;
     L17:;
     l6 = 1u;
-    w0 = f227(m, l0, l1, 1u, l10, l3);
+    w0 = f222(m, l0, l1, 1u, l10, l3);
     w0 = w0 & 255u;
     if (w0) goto L0;
-    w0 = f227(m, l0, l1, 2u, l10, l3);
+    w0 = f222(m, l0, l1, 2u, l10, l3);
     w0 = w0 & 255u;
     if (w0) goto L0;
-    w0 = f227(m, l0, l1, 3u, l10, l3);
+    w0 = f222(m, l0, l1, 3u, l10, l3);
     w0 = w0 & 255u;
     if (w0) goto L0;
-    w0 = f227(m, l0, l1, 4u, l10, l3);
+    w0 = f222(m, l0, l1, 4u, l10, l3);
     w0 = w0 & 255u;
     if (w0) goto L0;
-    w0 = f227(m, l0, l1, 5u, l10, l3);
+    w0 = f222(m, l0, l1, 5u, l10, l3);
     w0 = w0 & 255u;
     if (w0) goto L0;
-    w0 = f227(m, l0, l1, 6u, l10, l3);
+    w0 = f222(m, l0, l1, 6u, l10, l3);
     w0 = w0 & 255u;
     if (w0) goto L0;
-    w0 = f227(m, l0, l1, 7u, l10, l3);
+    w0 = f222(m, l0, l1, 7u, l10, l3);
     w0 = w0 & 255u;
     if (w0) goto L0;
-    w0 = f227(m, l0, l1, 8u, l10, l3);
+    w0 = f222(m, l0, l1, 8u, l10, l3);
     w0 = w0 & 255u;
     if (w0) goto L0;
-    w0 = f227(m, l0, l1, 9u, l10, l3);
+    w0 = f222(m, l0, l1, 9u, l10, l3);
     w0 = w0 & 255u;
     if (w0) goto L0;
-    w0 = f227(m, l0, l1, 10u, l10, l3);
+    w0 = f222(m, l0, l1, 10u, l10, l3);
     w0 = w0 & 255u;
     if (w0) goto L0;
-    w0 = f227(m, l0, l1, 11u, l10, l3);
+    w0 = f222(m, l0, l1, 11u, l10, l3);
     w0 = w0 & 255u;
     if (w0) goto L0;
-    w0 = f227(m, l0, l1, 12u, l10, l3);
+    w0 = f222(m, l0, l1, 12u, l10, l3);
     w0 = w0 & 255u;
     if (w0) goto L0;
-    w0 = f227(m, l0, l1, 13u, l10, l3);
+    w0 = f222(m, l0, l1, 13u, l10, l3);
     w0 = w0 & 255u;
     if (w0) goto L0;
-    w0 = f227(m, l0, l1, 14u, l10, l3);
+    w0 = f222(m, l0, l1, 14u, l10, l3);
     w0 = w0 & 255u;
     if (w0) goto L0;
-    w0 = f227(m, l0, l1, 15u, l10, l3);
+    w0 = f222(m, l0, l1, 15u, l10, l3);
     w0 = w0 & 255u;
     if (w0) goto L0;
-    w0 = f227(m, l0, l1, 16u, l10, l3);
+    w0 = f222(m, l0, l1, 16u, l10, l3);
     w0 = w0 & 255u;
     if (w0) goto L0;
-    w0 = f227(m, l0, l1, 17u, l10, l3);
+    w0 = f222(m, l0, l1, 17u, l10, l3);
     w0 = w0 & 255u;
     if (w0) goto L0;
-    w0 = f227(m, l0, l1, 18u, l10, l3);
+    w0 = f222(m, l0, l1, 18u, l10, l3);
     w0 = w0 & 255u;
     if (w0) goto L0;
-    w0 = f227(m, l0, l1, 19u, l10, l3);
+    w0 = f222(m, l0, l1, 19u, l10, l3);
     w0 = w0 & 255u;
     if (w0) goto L0;
-    w0 = f227(m, l0, l1, 20u, l10, l3);
+    w0 = f222(m, l0, l1, 20u, l10, l3);
     w0 = w0 & 255u;
     if (w0) goto L0;
-    w0 = f227(m, l0, l1, 21u, l10, l3);
+    w0 = f222(m, l0, l1, 21u, l10, l3);
     w0 = w0 & 255u;
     if (w0) goto L0;
-    w0 = f227(m, l0, l1, 22u, l10, l3);
+    w0 = f222(m, l0, l1, 22u, l10, l3);
     w0 = w0 & 255u;
     if (w0) goto L0;
-    w0 = f227(m, l0, l1, 23u, l10, l3);
+    w0 = f222(m, l0, l1, 23u, l10, l3);
     w0 = w0 & 255u;
     if (w0) goto L0;
-    w0 = f227(m, l0, l1, 24u, l10, l3);
+    w0 = f222(m, l0, l1, 24u, l10, l3);
     w0 = w0 & 255u;
     if (w0) goto L0;
-    w0 = f227(m, l0, l1, 25u, l10, l3);
+    w0 = f222(m, l0, l1, 25u, l10, l3);
     w0 = w0 & 255u;
     if (w0) goto L0;
-    w0 = f227(m, l0, l1, 26u, l10, l3);
+    w0 = f222(m, l0, l1, 26u, l10, l3);
     w0 = w0 & 255u;
     if (w0) goto L0;
-    w0 = f227(m, l0, l1, 27u, l10, l3);
+    w0 = f222(m, l0, l1, 27u, l10, l3);
     w0 = w0 & 255u;
     if (w0) goto L0;
-    w0 = f227(m, l0, l1, 28u, l10, l3);
+    w0 = f222(m, l0, l1, 28u, l10, l3);
     w0 = w0 & 255u;
     if (w0) goto L0;
-    w0 = f227(m, l0, l1, 29u, l10, l3);
+    w0 = f222(m, l0, l1, 29u, l10, l3);
     w0 = w0 & 255u;
     if (w0) goto L0;
-    w0 = f227(m, l0, l1, 30u, l10, l3);
+    w0 = f222(m, l0, l1, 30u, l10, l3);
     w0 = w0 & 255u;
     if (w0) goto L0;
-    w0 = f227(m, l0, l1, 31u, l10, l3);
+    w0 = f222(m, l0, l1, 31u, l10, l3);
     w0 = w0 & 255u;
     if (w0) goto L0;
     goto L10;
@@ -53149,7 +52242,7 @@ static u32 f176(Machine *m, u64 l0, u64 l1, u64 l2, u64 l3) {
     t1 = I64_LOAD(m, t1);
     t2 = I64_LOAD(m, l7);
     l7 = t2;
-    f210(m, t0, t1, l39, l7);
+    f205(m, t0, t1, l39, l7);
     w0 = I32_LOAD8_U(m, l5 + 272u);
     if (w0) goto L1;
     w0 = I32_LOAD8_U(m, l5 + 280u);
@@ -53166,7 +52259,7 @@ static u32 f176(Machine *m, u64 l0, u64 l1, u64 l2, u64 l3) {
     w0 = t0 != t1;
     if (w0) goto L38;
     t0 = l5 + 360ull;
-    w0 = f192(m, t0);
+    w0 = f187(m, t0);
     l37 = w0;
     w0 = I32_LOAD8_U(m, l5 + 360u);
     l6 = w0;
@@ -53286,7 +52379,7 @@ static u32 f176(Machine *m, u64 l0, u64 l1, u64 l2, u64 l3) {
     w0 = l4 < l7;
     t2 = w0 ? t2 : l7;
     l4 = t2;
-    f170(m, t0, l8, t1, l9, l4);
+    f166(m, t0, l8, t1, l9, l4);
     w0 = I32_LOAD8_U(m, l5 + 728u);
     if (w0) goto L46;
     l6 = 1u;
@@ -53345,7 +52438,7 @@ static u32 f176(Machine *m, u64 l0, u64 l1, u64 l2, u64 l3) {
     t1 = I64_LOAD(m, l5 + 872u);
     l9 = t1;
     t1 = l37 ? l9 : l32;
-    f171(m, t0, l8, 1537u, t1, l7);
+    f167(m, t0, l8, 1537u, t1, l7);
     t0 = I64_LOAD(m, l30);
     I64_STORE(m, l5 + 696u, t0);
     t0 = I64_LOAD(m, l30 + 8u);
@@ -53587,7 +52680,7 @@ static u32 f176(Machine *m, u64 l0, u64 l1, u64 l2, u64 l3) {
     l7 = t0;
     L75:;
     t0 = l5 + 1904ull;
-    w0 = f203(m, t0, l7, l37);
+    w0 = f198(m, t0, l7, l37);
     l42 = w0;
     w0 = I32_LOAD8_U(m, l5 + 1904u);
     l37 = w0;
@@ -53611,7 +52704,7 @@ static u32 f176(Machine *m, u64 l0, u64 l1, u64 l2, u64 l3) {
     t0 = I64_LOAD(m, l16);
     I64_STORE(m, l5 + 1488u, t0);
     t0 = l5 + 1488ull;
-    f206(m, t0);
+    f201(m, t0);
     L78:;
     l37 = 0u;
     MEMORY_FILL(m, l25, 0u, 144ull);
@@ -54098,7 +53191,7 @@ static u32 f176(Machine *m, u64 l0, u64 l1, u64 l2, u64 l3) {
     I64_STORE(m, l5 + 1824u, l9);
     t0 = l5 + 1904ull;
     t1 = l5 + 1776ull;
-    f200(m, t0, l8, t1, l9);
+    f195(m, t0, l8, t1, l9);
     w0 = I32_LOAD8_U(m, l5 + 1904u);
     if (w0) goto L95;
     w0 = I32_LOAD8_U(m, l5 + 1912u);
@@ -54153,7 +53246,7 @@ static u32 f176(Machine *m, u64 l0, u64 l1, u64 l2, u64 l3) {
     w0 = w0 != 1u;
     if (w0) goto L99;
     t0 = l5 + 1904ull;
-    f201(m, t0, l8, l39, l7, l24);
+    f196(m, t0, l8, l39, l7, l24);
     w0 = I32_LOAD8_U(m, l5 + 1904u);
     if (w0) goto L101;
     w0 = I32_LOAD8_U(m, l5 + 1912u);
@@ -54170,7 +53263,7 @@ static u32 f176(Machine *m, u64 l0, u64 l1, u64 l2, u64 l3) {
     t0 = l5 + 1336ull;
     t1 = l5 + 864ull;
     t2 = l5 + 824ull;
-    f226(m, t0, l8, l4, l11, t1, t2);
+    f221(m, t0, l8, l4, l11, t1, t2);
     w0 = I32_LOAD8_U(m, l5 + 1352u);
     l37 = w0;
     w0 = I32_LOAD8_U(m, l5 + 1344u);
@@ -54329,7 +53422,7 @@ static u32 f176(Machine *m, u64 l0, u64 l1, u64 l2, u64 l3) {
     t0 = l5 + 8ull;
     MEMORY_COPY(m, l15, t0, 128ull);
     t0 = l5 + 136ull;
-    w0 = f220(m, t0, l38, l10, l1, l3);
+    w0 = f215(m, t0, l38, l10, l1, l3);
     l6 = w0;
     w0 = l4 != 1ull;
     t0 = I64_LOAD(m, l5 + 160u);
@@ -54414,8 +53507,8 @@ static u32 f176(Machine *m, u64 l0, u64 l1, u64 l2, u64 l3) {
     return l6;
 }
 
-/* std_alloc::vec::Vec::move_to::<#fc4e28ceff57c126> */
-static u32 f177(Machine *m, u64 l0, u64 l1) {
+/* std_alloc::vec::Vec::move_to::<#85bbc88966ff1fc4> */
+static u32 f173(Machine *m, u64 l0, u64 l1) {
     u32 l3 = 0, l6 = 0, l10 = 0, w0;
     u64 l2 = 0, l4 = 0, l5 = 0, l7 = 0, l8 = 0, l9 = 0, t0, t1, t2;
     FRAME(m, 32u);
@@ -54437,7 +53530,7 @@ static u32 f177(Machine *m, u64 l0, u64 l1) {
     t1 = I64_LOAD(m, l0);
     t2 = l0 + 8ull;
     t2 = I64_LOAD(m, t2);
-    f194(m, t0, l4, t1, t2, l5, l1);
+    f189(m, t0, l4, t1, t2, l5, l1);
     t0 = I64_LOAD(m, l2 + 24u);
     l4 = t0;
     w0 = I32_LOAD8_U(m, l2 + 16u);
@@ -54471,7 +53564,7 @@ static u32 f177(Machine *m, u64 l0, u64 l1) {
     l10 = 1u;
     goto L4;
     L5:;
-    f162(m, l2, l7, l5, 8ull);
+    f158(m, l2, l7, l5, 8ull);
     t0 = I64_LOAD(m, l2 + 8u);
     l4 = t0;
     w0 = I32_LOAD8_U(m, l2);
@@ -54510,8 +53603,8 @@ static u32 f177(Machine *m, u64 l0, u64 l1) {
     return 0;
 }
 
-/* std_alloc::vec::Vec::grow_amortized::<#fc4e28ceff57c126> */
-static u32 f178(Machine *m, u64 l0) {
+/* std_alloc::vec::Vec::grow_amortized::<#85bbc88966ff1fc4> */
+static u32 f174(Machine *m, u64 l0) {
     u32 l5 = 0, w0;
     u64 l2 = 0, l3 = 0, l4 = 0, t0;
     t0 = l0 + 8ull;
@@ -54534,15 +53627,15 @@ static u32 f178(Machine *m, u64 l0) {
     t0 = w0 ? l2 : l4;
     w0 = l3 < 4611686018427387904ull;
     t0 = w0 ? t0 : l2;
-    w0 = f177(m, l0, t0);
+    w0 = f173(m, l0, t0);
     l5 = w0;
     return l5;
     TRAP(m);
     return 0;
 }
 
-/* bech32_near_search::table::entries_of::<#d9906373e5b414af> */
-static void f179(Machine *m, u64 l0, u64 l1, u64 l2, u64 l3) {
+/* bech32_near::search::table::entries_of::<#067bb4531daaaff3> */
+static void f175(Machine *m, u64 l0, u64 l1, u64 l2, u64 l3) {
     u32 l17 = 0, w0;
     u64 l4 = 0, l5 = 0, l6 = 0, l7 = 0, l8 = 0, l9 = 0, l10 = 0, l11 = 0, l12 = 0, l13 = 0, l14 = 0, l15 = 0, l16 = 0, t0, t1, t2;
     FRAME(m, 112u);
@@ -54565,7 +53658,7 @@ static void f179(Machine *m, u64 l0, u64 l1, u64 l2, u64 l3) {
     w0 = l4 == 0;
     if (w0) goto L2;
     t0 = l5 + 72ull;
-    w0 = f177(m, t0, l4);
+    w0 = f173(m, t0, l4);
     if (w0) goto L2;
     t0 = I64_LOAD(m, l5 + 88u);
     l4 = t0;
@@ -54676,7 +53769,7 @@ static void f179(Machine *m, u64 l0, u64 l1, u64 l2, u64 l3) {
     w0 = t0 != l4;
     if (w0) goto L10;
     t0 = l5 + 40ull;
-    w0 = f178(m, t0);
+    w0 = f174(m, t0);
     w0 = w0 == 0;
     if (w0) goto L5;
     t0 = I64_LOAD(m, l5 + 48u);
@@ -54718,7 +53811,7 @@ static void f179(Machine *m, u64 l0, u64 l1, u64 l2, u64 l3) {
     w0 = l13 != l6;
     if (w0) goto L8;
     L6:;
-    f140(m, l9, l4);
+    f141(m, l9, l4);
     I32_STORE8(m, l0, 0u);
     t0 = l0 + 8ull;
     t1 = I64_LOAD(m, l5 + 40u);
@@ -54783,8 +53876,8 @@ static void f179(Machine *m, u64 l0, u64 l1, u64 l2, u64 l3) {
     m->stack_pointer = t0;
 }
 
-/* bech32_near_search::pairs::add_single::<#fd0d13fdebc37c5c> */
-static u32 f180(Machine *m, u64 l0, u64 l1, u64 l2, u64 l3, u64 l4, u64 l5, u64 l6) {
+/* bech32_near::search::pairs::add_single::<#fd0d13fdebc37c5c> */
+static u32 f176(Machine *m, u64 l0, u64 l1, u64 l2, u64 l3, u64 l4, u64 l5, u64 l6) {
     u32 l13 = 0, l17 = 0, w0, w1, w2, w3;
     u64 l8 = 0, l9 = 0, l10 = 0, l11 = 0, l12 = 0, l14 = 0, l15 = 0, l16 = 0, l18 = 0, t0, t1, t2;
     t0 = l0 + 124ull;
@@ -54875,7 +53968,7 @@ static u32 f180(Machine *m, u64 l0, u64 l1, u64 l2, u64 l3, u64 l4, u64 l5, u64 
     t0 = I64_LOAD(m, t0);
     w0 = t0 != 0ull;
     if (w0) goto L6;
-    w0 = f144(m, l8);
+    w0 = f145(m, l8);
     w0 = w0 == 0;
     if (w0) goto L0;
     t0 = l13 ? 32ull : 72ull;
@@ -54890,7 +53983,7 @@ static u32 f180(Machine *m, u64 l0, u64 l1, u64 l2, u64 l3, u64 l4, u64 l5, u64 
     l10 = t1;
     w0 = t0 != l10;
     if (w0) goto L7;
-    w0 = f181(m, l6);
+    w0 = f169(m, l6);
     if (w0) goto L8;
     return 1u;
     L8:;
@@ -54909,7 +54002,7 @@ static u32 f180(Machine *m, u64 l0, u64 l1, u64 l2, u64 l3, u64 l4, u64 l5, u64 
     I64_STORE(m, l1, t0);
     goto L0;
     L6:;
-    w0 = f182(m, l0, 0ull, 0ull, l6);
+    w0 = f177(m, l0, 0ull, 0ull, l6);
     w0 = w0 & 255u;
     w0 = w0 == 0;
     if (w0) goto L0;
@@ -55057,7 +54150,7 @@ static u32 f180(Machine *m, u64 l0, u64 l1, u64 l2, u64 l3, u64 l4, u64 l5, u64 
     w0 = l13 & 1u;
     if (w0) goto L16;
     L18:;
-    w0 = f227(m, l0, l9, l17, 0ull, l6);
+    w0 = f222(m, l0, l9, l17, 0ull, l6);
     w0 = w0 & 255u;
     w0 = w0 == 0;
     if (w0) goto L16;
@@ -55074,39 +54167,8 @@ static u32 f180(Machine *m, u64 l0, u64 l1, u64 l2, u64 l3, u64 l4, u64 l5, u64 
     return 0u;
 }
 
-/* std_alloc::vec::Vec::grow_amortized::<#13765d60f14e91c0> */
-static u32 f181(Machine *m, u64 l0) {
-    u32 l5 = 0, w0;
-    u64 l2 = 0, l3 = 0, l4 = 0, t0;
-    t0 = l0 + 8ull;
-    t0 = I64_LOAD(m, t0);
-    l2 = t0;
-    w0 = l2 != 18446744073709551615ull;
-    if (w0) goto L1;
-    return 0u;
-    L1:;
-    w0 = l2 > 3ull;
-    t0 = w0 ? l2 : 3ull;
-    t0 = t0 + 1ull;
-    l2 = t0;
-    t0 = l0 + 16ull;
-    t0 = I64_LOAD(m, t0);
-    l3 = t0;
-    t0 = l3 << 1;
-    l4 = t0;
-    w0 = l2 > l4;
-    t0 = w0 ? l2 : l4;
-    w0 = l3 < 4611686018427387904ull;
-    t0 = w0 ? t0 : l2;
-    w0 = f216(m, l0, t0);
-    l5 = w0;
-    return l5;
-    TRAP(m);
-    return 0;
-}
-
-/* bech32_near_search::gathering::add_answer::<#fd0d13fdebc37c5c> */
-static u32 f182(Machine *m, u64 l0, u64 l1, u64 l2, u64 l3) {
+/* bech32_near::search::gathering::add_answer::<#fd0d13fdebc37c5c> */
+static u32 f177(Machine *m, u64 l0, u64 l1, u64 l2, u64 l3) {
     u32 l6 = 0, l7 = 0, w0;
     u64 l4 = 0, l5 = 0, l8 = 0, l9 = 0, l10 = 0, l11 = 0, t0, t1;
     FRAME(m, 288u);
@@ -55120,7 +54182,7 @@ static u32 f182(Machine *m, u64 l0, u64 l1, u64 l2, u64 l3) {
     t0 = l0 + t0;
     t0 = I64_LOAD(m, t0);
     l5 = t0;
-    f172(m, l4, l0);
+    f168(m, l4, l0);
     l6 = 1u;
     w0 = I32_LOAD8_U(m, l4);
     if (w0) goto L1;
@@ -55217,7 +54279,7 @@ static u32 f182(Machine *m, u64 l0, u64 l1, u64 l2, u64 l3) {
     l2 = t1;
     w0 = t0 != l2;
     if (w0) goto L8;
-    w0 = f181(m, l3);
+    w0 = f169(m, l3);
     w0 = w0 == 0;
     if (w0) goto L2;
     t0 = l3 + 8ull;
@@ -55285,7 +54347,7 @@ static u32 f182(Machine *m, u64 l0, u64 l1, u64 l2, u64 l3) {
 }
 
 /* bech32_correction::corrector::Corrector::without_error::<#fd0d13fdebc37c5c> */
-static void f183(Machine *m, u64 l0, u64 l1, u64 l2, u32 l3) {
+static void f178(Machine *m, u64 l0, u64 l1, u64 l2, u32 l3) {
     u32 l5 = 0, w0;
     u64 l4 = 0, l6 = 0, l7 = 0, l8 = 0, l9 = 0, l10 = 0, l11 = 0, l12 = 0, t0, t1;
     FRAME(m, 272u);
@@ -55331,7 +54393,7 @@ static void f183(Machine *m, u64 l0, u64 l1, u64 l2, u32 l3) {
     L2:;
     t0 = l4 + 184ull;
     t1 = I64_LOAD(m, l8);
-    f210(m, t0, l6, l7, t1);
+    f205(m, t0, l6, l7, t1);
     t0 = I64_LOAD(m, l4 + 232u);
     I64_STORE(m, l4 + 144u, t0);
     t0 = I64_LOAD(m, l4 + 240u);
@@ -55380,7 +54442,7 @@ static void f183(Machine *m, u64 l0, u64 l1, u64 l2, u32 l3) {
     L6:;
     t0 = l4 + 184ull;
     t1 = I64_LOAD(m, l12);
-    f209(m, t0, l10, l11, t1);
+    f204(m, t0, l10, l11, t1);
     t0 = I64_LOAD(m, l4 + 200u);
     I64_STORE(m, l4 + 112u, t0);
     t0 = I64_LOAD(m, l4 + 208u);
@@ -55475,7 +54537,7 @@ static void f183(Machine *m, u64 l0, u64 l1, u64 l2, u32 l3) {
     w0 = l5 == 0;
     if (w0) goto L10;
     t0 = l1 + 120ull;
-    f228(m, l4, t0, l2, l3);
+    f223(m, l4, t0, l2, l3);
     t0 = l0 + 8ull;
     I64_STORE(m, t0, l12);
     I32_STORE8(m, l0, 0u);
@@ -55581,8 +54643,8 @@ static void f183(Machine *m, u64 l0, u64 l1, u64 l2, u32 l3) {
     m->stack_pointer = t0;
 }
 
-/* bech32_near_search::gathering::push_with::<#fd0d13fdebc37c5c> */
-static u32 f184(Machine *m, u64 l0, u32 l1, u64 l2, u64 l3, u32 l4, u64 l5) {
+/* bech32_near::search::gathering::push_with::<#fd0d13fdebc37c5c> */
+static u32 f179(Machine *m, u64 l0, u32 l1, u64 l2, u64 l3, u32 l4, u64 l5) {
     u32 w0;
     u64 l7 = 0, l8 = 0, l9 = 0, l10 = 0, l11 = 0, t0, t1, t2;
     t0 = I64_LOAD(m, l2 + 24u);
@@ -55599,7 +54661,7 @@ static u32 f184(Machine *m, u64 l0, u32 l1, u64 l2, u64 l3, u32 l4, u64 l5) {
     t0 = w0 ? 16ull : 64ull;
     t0 = l0 + t0;
     t0 = I64_LOAD(m, t0);
-    w0 = f218(m, l10, l9, t0, l3, l4, l5);
+    w0 = f213(m, l10, l9, t0, l3, l4, l5);
     w0 = w0 & 255u;
     if (w0) goto L2;
     w0 = l9 == 0;
@@ -55841,7 +54903,7 @@ static u32 f184(Machine *m, u64 l0, u32 l1, u64 l2, u64 l3, u32 l4, u64 l5) {
 }
 
 /* bech32_near::texts::mended_all::<#7a7b4d3859a9cb38> */
-static void f185(Machine *m, u64 l0, u64 l1, u64 l2, u64 l3, u64 l4) {
+static void f180(Machine *m, u64 l0, u64 l1, u64 l2, u64 l3, u64 l4) {
     u32 l12 = 0, l22 = 0, l25 = 0, w0, w1;
     u64 l5 = 0, l6 = 0, l7 = 0, l8 = 0, l9 = 0, l10 = 0, l11 = 0, l13 = 0, l14 = 0, l15 = 0, l16 = 0, l17 = 0, l18 = 0, l19 = 0, l20 = 0, l21 = 0;
     u64 l23 = 0, l24 = 0, l26 = 0, t0, t1, t2;
@@ -55898,7 +54960,7 @@ static void f185(Machine *m, u64 l0, u64 l1, u64 l2, u64 l3, u64 l4) {
     l12 = w0;
     if (l12) goto L2;
     t0 = l6 + 336ull;
-    w0 = f221(m, t0, l9);
+    w0 = f216(m, t0, l9);
     if (w0) goto L2;
     t0 = I64_LOAD(m, l6 + 352u);
     l5 = t0;
@@ -56102,7 +55164,7 @@ static void f185(Machine *m, u64 l0, u64 l1, u64 l2, u64 l3, u64 l4) {
     goto L16;
     L17:;
     t0 = l6 + 8ull;
-    f162(m, t0, l1, l3, 1ull);
+    f158(m, t0, l1, l3, 1ull);
     t0 = I64_LOAD(m, l6 + 16u);
     l15 = t0;
     w0 = I32_LOAD8_U(m, l6 + 8u);
@@ -56259,7 +55321,7 @@ static void f185(Machine *m, u64 l0, u64 l1, u64 l2, u64 l3, u64 l4) {
     w0 = t0 != l5;
     if (w0) goto L27;
     t0 = l6 + 304ull;
-    w0 = f222(m, t0);
+    w0 = f217(m, t0);
     w0 = w0 == 0;
     if (w0) goto L10;
     t0 = I64_LOAD(m, l6 + 312u);
@@ -56302,7 +55364,7 @@ static void f185(Machine *m, u64 l0, u64 l1, u64 l2, u64 l3, u64 l4) {
     I64_STORE(m, l6 + 32u, 0ull);
     I64_STORE(m, l6 + 24u, l10);
     t0 = l6 + 24ull;
-    f223(m, t0);
+    f218(m, t0);
     I32_STORE8(m, l0, 0u);
     t0 = l0 + 8ull;
     t1 = I64_LOAD(m, l6 + 304u);
@@ -56358,9 +55420,9 @@ static void f185(Machine *m, u64 l0, u64 l1, u64 l2, u64 l3, u64 l4) {
     I64_STORE(m, l6 + 128u, l9);
     I64_STORE(m, l6 + 120u, l10);
     t0 = l6 + 120ull;
-    f223(m, t0);
+    f218(m, t0);
     t0 = l6 + 304ull;
-    f224(m, t0);
+    f219(m, t0);
     t0 = l0 + 8ull;
     I64_STORE(m, t0, 0ull);
     I32_STORE8(m, l0, 1u);
@@ -56433,9 +55495,9 @@ static void f185(Machine *m, u64 l0, u64 l1, u64 l2, u64 l3, u64 l4) {
     I64_STORE(m, l6 + 80u, l9);
     I64_STORE(m, l6 + 72u, l10);
     t0 = l6 + 72ull;
-    f223(m, t0);
+    f218(m, t0);
     t0 = l6 + 304ull;
-    f224(m, t0);
+    f219(m, t0);
     t0 = l0 + 8ull;
     I64_STORE(m, t0, 0ull);
     I32_STORE8(m, l0, 1u);
@@ -56454,7 +55516,7 @@ static void f185(Machine *m, u64 l0, u64 l1, u64 l2, u64 l3, u64 l4) {
 }
 
 /* bech32_correction::corrector::Corrector::listing::<#d2fa12cfd4333d9e> */
-static void f186(Machine *m, u64 l0, u64 l1) {
+static void f181(Machine *m, u64 l0, u64 l1) {
     u32 l3 = 0, l9 = 0, l10 = 0, l11 = 0, w0, w1;
     u64 l2 = 0, l4 = 0, l5 = 0, l6 = 0, l7 = 0, l8 = 0, l12 = 0, l13 = 0, l14 = 0, t0, t1, t2;
     FRAME(m, 1248u);
@@ -56760,7 +55822,7 @@ static void f186(Machine *m, u64 l0, u64 l1) {
     w0 = t0 != 7ull;
     if (w0) goto L39;
     t0 = l2 + 1064ull;
-    w0 = f199(m, t0);
+    w0 = f194(m, t0);
     l9 = w0;
     w0 = I32_LOAD8_U(m, l2 + 1064u);
     l10 = w0;
@@ -57164,7 +56226,7 @@ static void f186(Machine *m, u64 l0, u64 l1) {
     I64_STORE(m, l2 + 1016u, l14);
     t0 = l2 + 1064ull;
     t1 = l2 + 968ull;
-    f200(m, t0, l4, t1, l14);
+    f195(m, t0, l4, t1, l14);
     w0 = I32_LOAD8_U(m, l2 + 1064u);
     if (w0) goto L58;
     w0 = I32_LOAD8_U(m, l2 + 1072u);
@@ -57358,7 +56420,7 @@ static void f186(Machine *m, u64 l0, u64 l1) {
     t0 = l2 + 1064ull;
     t1 = I64_LOAD(m, l7);
     t2 = l2 + 544ull;
-    f201(m, t0, l4, l12, t1, t2);
+    f196(m, t0, l4, l12, t1, t2);
     w0 = I32_LOAD8_U(m, l2 + 1064u);
     if (w0) goto L72;
     w0 = I32_LOAD8_U(m, l2 + 1072u);
@@ -57379,7 +56441,7 @@ static void f186(Machine *m, u64 l0, u64 l1) {
     L65:;
     t0 = l2 + 392ull;
     t1 = l1 + 80ull;
-    f202(m, t0, l4, l5, l7, l1, t1);
+    f197(m, t0, l4, l5, l7, l1, t1);
     w0 = I32_LOAD8_U(m, l2 + 408u);
     l9 = w0;
     w0 = I32_LOAD8_U(m, l2 + 400u);
@@ -57418,8 +56480,8 @@ static void f186(Machine *m, u64 l0, u64 l1) {
     m->stack_pointer = t0;
 }
 
-/* bech32_near_search::gathering::gather::<#d2fa12cfd4333d9e> */
-static u32 f187(Machine *m, u64 l0, u64 l1, u64 l2, u64 l3) {
+/* bech32_near::search::gathering::gather::<#d2fa12cfd4333d9e> */
+static u32 f182(Machine *m, u64 l0, u64 l1, u64 l2, u64 l3) {
     u32 l6 = 0, l32 = 0, l36 = 0, l37 = 0, l38 = 0, w0, w1, w2, w3;
     u64 l4 = 0, l5 = 0, l7 = 0, l8 = 0, l9 = 0, l10 = 0, l11 = 0, l12 = 0, l13 = 0, l14 = 0, l15 = 0, l16 = 0, l17 = 0, l18 = 0, l19 = 0, l20 = 0;
     u64 l21 = 0, l22 = 0, l23 = 0, l24 = 0, l25 = 0, l26 = 0, l27 = 0, l28 = 0, l29 = 0, l30 = 0, l31 = 0, l33 = 0, l34 = 0, l35 = 0, t0, t1;
@@ -57442,7 +56504,7 @@ static u32 f187(Machine *m, u64 l0, u64 l1, u64 l2, u64 l3) {
     t0 = t0 >> 1;
     w0 = l1 > t0;
     if (w0) goto L3;
-    w0 = f189(m, l0, l1, l2, l3);
+    w0 = f184(m, l0, l1, l2, l3);
     w0 = w0 & 255u;
     l6 = w0;
     goto L0;
@@ -57451,14 +56513,14 @@ static u32 f187(Machine *m, u64 l0, u64 l1, u64 l2, u64 l3) {
     if (w0) goto L4;
     w0 = l4 == 0;
     if (w0) goto L6;
-    w0 = f189(m, l0, 0ull, 0ull, l3);
+    w0 = f184(m, l0, 0ull, 0ull, l3);
     w0 = w0 & 255u;
     w0 = w0 == 0;
     if (w0) goto L5;
     goto L1;
     L6:;
     t0 = l0 + 120ull;
-    w0 = f144(m, t0);
+    w0 = f145(m, t0);
     w0 = w0 == 0;
     if (w0) goto L5;
     t0 = l6 ? 32ull : 72ull;
@@ -57473,7 +56535,7 @@ static u32 f187(Machine *m, u64 l0, u64 l1, u64 l2, u64 l3) {
     l4 = t1;
     w0 = t0 != l4;
     if (w0) goto L7;
-    w0 = f181(m, l3);
+    w0 = f169(m, l3);
     w0 = w0 == 0;
     if (w0) goto L1;
     t0 = l3 + 8ull;
@@ -57634,97 +56696,97 @@ static u32 f187(Machine *m, u64 l0, u64 l1, u64 l2, u64 l3) {
     if (w0) goto L16;
     L17:;
     l6 = 1u;
-    w0 = f214(m, l0, l1, 1u, l10, l3);
+    w0 = f211(m, l0, l1, 1u, l10, l3);
     w0 = w0 & 255u;
     if (w0) goto L0;
-    w0 = f214(m, l0, l1, 2u, l10, l3);
+    w0 = f211(m, l0, l1, 2u, l10, l3);
     w0 = w0 & 255u;
     if (w0) goto L0;
-    w0 = f214(m, l0, l1, 3u, l10, l3);
+    w0 = f211(m, l0, l1, 3u, l10, l3);
     w0 = w0 & 255u;
     if (w0) goto L0;
-    w0 = f214(m, l0, l1, 4u, l10, l3);
+    w0 = f211(m, l0, l1, 4u, l10, l3);
     w0 = w0 & 255u;
     if (w0) goto L0;
-    w0 = f214(m, l0, l1, 5u, l10, l3);
+    w0 = f211(m, l0, l1, 5u, l10, l3);
     w0 = w0 & 255u;
     if (w0) goto L0;
-    w0 = f214(m, l0, l1, 6u, l10, l3);
+    w0 = f211(m, l0, l1, 6u, l10, l3);
     w0 = w0 & 255u;
     if (w0) goto L0;
-    w0 = f214(m, l0, l1, 7u, l10, l3);
+    w0 = f211(m, l0, l1, 7u, l10, l3);
     w0 = w0 & 255u;
     if (w0) goto L0;
-    w0 = f214(m, l0, l1, 8u, l10, l3);
+    w0 = f211(m, l0, l1, 8u, l10, l3);
     w0 = w0 & 255u;
     if (w0) goto L0;
-    w0 = f214(m, l0, l1, 9u, l10, l3);
+    w0 = f211(m, l0, l1, 9u, l10, l3);
     w0 = w0 & 255u;
     if (w0) goto L0;
-    w0 = f214(m, l0, l1, 10u, l10, l3);
+    w0 = f211(m, l0, l1, 10u, l10, l3);
     w0 = w0 & 255u;
     if (w0) goto L0;
-    w0 = f214(m, l0, l1, 11u, l10, l3);
+    w0 = f211(m, l0, l1, 11u, l10, l3);
     w0 = w0 & 255u;
     if (w0) goto L0;
-    w0 = f214(m, l0, l1, 12u, l10, l3);
+    w0 = f211(m, l0, l1, 12u, l10, l3);
     w0 = w0 & 255u;
     if (w0) goto L0;
-    w0 = f214(m, l0, l1, 13u, l10, l3);
+    w0 = f211(m, l0, l1, 13u, l10, l3);
     w0 = w0 & 255u;
     if (w0) goto L0;
-    w0 = f214(m, l0, l1, 14u, l10, l3);
+    w0 = f211(m, l0, l1, 14u, l10, l3);
     w0 = w0 & 255u;
     if (w0) goto L0;
-    w0 = f214(m, l0, l1, 15u, l10, l3);
+    w0 = f211(m, l0, l1, 15u, l10, l3);
     w0 = w0 & 255u;
     if (w0) goto L0;
-    w0 = f214(m, l0, l1, 16u, l10, l3);
+    w0 = f211(m, l0, l1, 16u, l10, l3);
     w0 = w0 & 255u;
     if (w0) goto L0;
-    w0 = f214(m, l0, l1, 17u, l10, l3);
+    w0 = f211(m, l0, l1, 17u, l10, l3);
     w0 = w0 & 255u;
     if (w0) goto L0;
-    w0 = f214(m, l0, l1, 18u, l10, l3);
+    w0 = f211(m, l0, l1, 18u, l10, l3);
     w0 = w0 & 255u;
     if (w0) goto L0;
-    w0 = f214(m, l0, l1, 19u, l10, l3);
+    w0 = f211(m, l0, l1, 19u, l10, l3);
     w0 = w0 & 255u;
     if (w0) goto L0;
-    w0 = f214(m, l0, l1, 20u, l10, l3);
+    w0 = f211(m, l0, l1, 20u, l10, l3);
     w0 = w0 & 255u;
     if (w0) goto L0;
-    w0 = f214(m, l0, l1, 21u, l10, l3);
+    w0 = f211(m, l0, l1, 21u, l10, l3);
     w0 = w0 & 255u;
     if (w0) goto L0;
-    w0 = f214(m, l0, l1, 22u, l10, l3);
+    w0 = f211(m, l0, l1, 22u, l10, l3);
     w0 = w0 & 255u;
     if (w0) goto L0;
-    w0 = f214(m, l0, l1, 23u, l10, l3);
+    w0 = f211(m, l0, l1, 23u, l10, l3);
     w0 = w0 & 255u;
     if (w0) goto L0;
-    w0 = f214(m, l0, l1, 24u, l10, l3);
+    w0 = f211(m, l0, l1, 24u, l10, l3);
     w0 = w0 & 255u;
     if (w0) goto L0;
-    w0 = f214(m, l0, l1, 25u, l10, l3);
+    w0 = f211(m, l0, l1, 25u, l10, l3);
     w0 = w0 & 255u;
     if (w0) goto L0;
-    w0 = f214(m, l0, l1, 26u, l10, l3);
+    w0 = f211(m, l0, l1, 26u, l10, l3);
     w0 = w0 & 255u;
     if (w0) goto L0;
-    w0 = f214(m, l0, l1, 27u, l10, l3);
+    w0 = f211(m, l0, l1, 27u, l10, l3);
     w0 = w0 & 255u;
     if (w0) goto L0;
-    w0 = f214(m, l0, l1, 28u, l10, l3);
+    w0 = f211(m, l0, l1, 28u, l10, l3);
     w0 = w0 & 255u;
     if (w0) goto L0;
-    w0 = f214(m, l0, l1, 29u, l10, l3);
+    w0 = f211(m, l0, l1, 29u, l10, l3);
     w0 = w0 & 255u;
     if (w0) goto L0;
-    w0 = f214(m, l0, l1, 30u, l10, l3);
+    w0 = f211(m, l0, l1, 30u, l10, l3);
     w0 = w0 & 255u;
     if (w0) goto L0;
-    w0 = f214(m, l0, l1, 31u, l10, l3);
+    w0 = f211(m, l0, l1, 31u, l10, l3);
     w0 = w0 & 255u;
     if (w0) goto L0;
     goto L10;
@@ -57754,7 +56816,7 @@ static u32 f187(Machine *m, u64 l0, u64 l1, u64 l2, u64 l3) {
     t1 = I64_LOAD(m, t1);
     t2 = I64_LOAD(m, l7);
     l7 = t2;
-    f210(m, t0, t1, l34, l7);
+    f205(m, t0, t1, l34, l7);
     w0 = I32_LOAD8_U(m, l5 + 264u);
     if (w0) goto L1;
     w0 = I32_LOAD8_U(m, l5 + 272u);
@@ -57771,7 +56833,7 @@ static u32 f187(Machine *m, u64 l0, u64 l1, u64 l2, u64 l3) {
     w0 = t0 != t1;
     if (w0) goto L30;
     t0 = l5 + 352ull;
-    w0 = f192(m, t0);
+    w0 = f187(m, t0);
     l32 = w0;
     w0 = I32_LOAD8_U(m, l5 + 352u);
     l6 = w0;
@@ -57891,7 +56953,7 @@ static u32 f187(Machine *m, u64 l0, u64 l1, u64 l2, u64 l3) {
     w0 = l4 < l7;
     t2 = w0 ? t2 : l7;
     l4 = t2;
-    f170(m, t0, l8, t1, l9, l4);
+    f166(m, t0, l8, t1, l9, l4);
     w0 = I32_LOAD8_U(m, l5 + 720u);
     if (w0) goto L38;
     l6 = 1u;
@@ -57950,7 +57012,7 @@ static u32 f187(Machine *m, u64 l0, u64 l1, u64 l2, u64 l3) {
     t1 = I64_LOAD(m, l5 + 864u);
     l9 = t1;
     t1 = l32 ? l9 : l27;
-    f171(m, t0, l8, 1537u, t1, l7);
+    f167(m, t0, l8, 1537u, t1, l7);
     t0 = I64_LOAD(m, l26);
     I64_STORE(m, l5 + 688u, t0);
     t0 = I64_LOAD(m, l26 + 8u);
@@ -58188,7 +57250,7 @@ static u32 f187(Machine *m, u64 l0, u64 l1, u64 l2, u64 l3) {
     l7 = t0;
     L67:;
     t0 = l5 + 1600ull;
-    w0 = f203(m, t0, l7, l36);
+    w0 = f198(m, t0, l7, l36);
     l37 = w0;
     w0 = I32_LOAD8_U(m, l5 + 1600u);
     l36 = w0;
@@ -58212,7 +57274,7 @@ static u32 f187(Machine *m, u64 l0, u64 l1, u64 l2, u64 l3) {
     t0 = I64_LOAD(m, l16);
     I64_STORE(m, l5 + 1344u, t0);
     t0 = l5 + 1344ull;
-    f206(m, t0);
+    f201(m, t0);
     L70:;
     l36 = 0u;
     MEMORY_FILL(m, l24, 0u, 144ull);
@@ -58368,7 +57430,7 @@ static u32 f187(Machine *m, u64 l0, u64 l1, u64 l2, u64 l3) {
     I64_STORE(m, l5 + 1472u, l7);
     t0 = l5 + 1600ull;
     t1 = l5 + 1472ull;
-    f200(m, t0, l8, t1, l9);
+    f195(m, t0, l8, t1, l9);
     w0 = I32_LOAD8_U(m, l5 + 1600u);
     if (w0) goto L78;
     w0 = I32_LOAD8_U(m, l5 + 1608u);
@@ -58420,7 +57482,7 @@ static u32 f187(Machine *m, u64 l0, u64 l1, u64 l2, u64 l3) {
     w0 = w0 != 1u;
     if (w0) goto L26;
     t0 = l5 + 1600ull;
-    f201(m, t0, l8, l9, l7, l23);
+    f196(m, t0, l8, l9, l7, l23);
     w0 = I32_LOAD8_U(m, l5 + 1600u);
     if (w0) goto L80;
     w0 = I32_LOAD8_U(m, l5 + 1608u);
@@ -58437,7 +57499,7 @@ static u32 f187(Machine *m, u64 l0, u64 l1, u64 l2, u64 l3) {
     t0 = l5 + 1192ull;
     t1 = l5 + 856ull;
     t2 = l5 + 816ull;
-    f202(m, t0, l8, l4, l11, t1, t2);
+    f197(m, t0, l8, l4, l11, t1, t2);
     w0 = I32_LOAD8_U(m, l5 + 1208u);
     l36 = w0;
     w0 = I32_LOAD8_U(m, l5 + 1200u);
@@ -58681,7 +57743,7 @@ static u32 f187(Machine *m, u64 l0, u64 l1, u64 l2, u64 l3) {
     I64_STORE(m, l5 + 128u, l4);
     MEMORY_COPY(m, l15, l5, 128ull);
     t0 = l5 + 128ull;
-    w0 = f220(m, t0, l33, l10, l1, l3);
+    w0 = f215(m, t0, l33, l10, l1, l3);
     l6 = w0;
     w0 = l4 != 1ull;
     t0 = I64_LOAD(m, l5 + 152u);
@@ -58766,8 +57828,8 @@ static u32 f187(Machine *m, u64 l0, u64 l1, u64 l2, u64 l3) {
     return l6;
 }
 
-/* bech32_near_search::pairs::add_single::<#d2fa12cfd4333d9e> */
-static u32 f188(Machine *m, u64 l0, u64 l1, u64 l2, u64 l3, u64 l4, u64 l5, u64 l6) {
+/* bech32_near::search::pairs::add_single::<#d2fa12cfd4333d9e> */
+static u32 f183(Machine *m, u64 l0, u64 l1, u64 l2, u64 l3, u64 l4, u64 l5, u64 l6) {
     u32 l13 = 0, l17 = 0, w0, w1, w2, w3;
     u64 l8 = 0, l9 = 0, l10 = 0, l11 = 0, l12 = 0, l14 = 0, l15 = 0, l16 = 0, l18 = 0, t0, t1, t2;
     t0 = l0 + 124ull;
@@ -58858,7 +57920,7 @@ static u32 f188(Machine *m, u64 l0, u64 l1, u64 l2, u64 l3, u64 l4, u64 l5, u64 
     t0 = I64_LOAD(m, t0);
     w0 = t0 != 0ull;
     if (w0) goto L6;
-    w0 = f144(m, l8);
+    w0 = f145(m, l8);
     w0 = w0 == 0;
     if (w0) goto L0;
     t0 = l13 ? 32ull : 72ull;
@@ -58873,7 +57935,7 @@ static u32 f188(Machine *m, u64 l0, u64 l1, u64 l2, u64 l3, u64 l4, u64 l5, u64 
     l10 = t1;
     w0 = t0 != l10;
     if (w0) goto L7;
-    w0 = f181(m, l6);
+    w0 = f169(m, l6);
     if (w0) goto L8;
     return 1u;
     L8:;
@@ -58892,7 +57954,7 @@ static u32 f188(Machine *m, u64 l0, u64 l1, u64 l2, u64 l3, u64 l4, u64 l5, u64 
     I64_STORE(m, l1, t0);
     goto L0;
     L6:;
-    w0 = f189(m, l0, 0ull, 0ull, l6);
+    w0 = f184(m, l0, 0ull, 0ull, l6);
     w0 = w0 & 255u;
     w0 = w0 == 0;
     if (w0) goto L0;
@@ -59040,7 +58102,7 @@ static u32 f188(Machine *m, u64 l0, u64 l1, u64 l2, u64 l3, u64 l4, u64 l5, u64 
     w0 = l13 & 1u;
     if (w0) goto L16;
     L18:;
-    w0 = f214(m, l0, l9, l17, 0ull, l6);
+    w0 = f211(m, l0, l9, l17, 0ull, l6);
     w0 = w0 & 255u;
     w0 = w0 == 0;
     if (w0) goto L16;
@@ -59057,8 +58119,8 @@ static u32 f188(Machine *m, u64 l0, u64 l1, u64 l2, u64 l3, u64 l4, u64 l5, u64 
     return 0u;
 }
 
-/* bech32_near_search::gathering::add_answer::<#d2fa12cfd4333d9e> */
-static u32 f189(Machine *m, u64 l0, u64 l1, u64 l2, u64 l3) {
+/* bech32_near::search::gathering::add_answer::<#d2fa12cfd4333d9e> */
+static u32 f184(Machine *m, u64 l0, u64 l1, u64 l2, u64 l3) {
     u32 l6 = 0, l7 = 0, w0;
     u64 l4 = 0, l5 = 0, l8 = 0, l9 = 0, l10 = 0, l11 = 0, t0, t1;
     FRAME(m, 288u);
@@ -59072,7 +58134,7 @@ static u32 f189(Machine *m, u64 l0, u64 l1, u64 l2, u64 l3) {
     t0 = l0 + t0;
     t0 = I64_LOAD(m, t0);
     l5 = t0;
-    f186(m, l4, l0);
+    f181(m, l4, l0);
     l6 = 1u;
     w0 = I32_LOAD8_U(m, l4);
     if (w0) goto L1;
@@ -59169,7 +58231,7 @@ static u32 f189(Machine *m, u64 l0, u64 l1, u64 l2, u64 l3) {
     l2 = t1;
     w0 = t0 != l2;
     if (w0) goto L8;
-    w0 = f181(m, l3);
+    w0 = f169(m, l3);
     w0 = w0 == 0;
     if (w0) goto L2;
     t0 = l3 + 8ull;
@@ -59237,7 +58299,7 @@ static u32 f189(Machine *m, u64 l0, u64 l1, u64 l2, u64 l3) {
 }
 
 /* bech32_correction::corrector::Corrector::without_error::<#d2fa12cfd4333d9e> */
-static void f190(Machine *m, u64 l0, u64 l1, u64 l2, u32 l3) {
+static void f185(Machine *m, u64 l0, u64 l1, u64 l2, u32 l3) {
     u32 l5 = 0, w0;
     u64 l4 = 0, l6 = 0, l7 = 0, l8 = 0, l9 = 0, l10 = 0, l11 = 0, l12 = 0, t0, t1;
     FRAME(m, 272u);
@@ -59283,7 +58345,7 @@ static void f190(Machine *m, u64 l0, u64 l1, u64 l2, u32 l3) {
     L2:;
     t0 = l4 + 184ull;
     t1 = I64_LOAD(m, l8);
-    f210(m, t0, l6, l7, t1);
+    f205(m, t0, l6, l7, t1);
     t0 = I64_LOAD(m, l4 + 232u);
     I64_STORE(m, l4 + 144u, t0);
     t0 = I64_LOAD(m, l4 + 240u);
@@ -59332,7 +58394,7 @@ static void f190(Machine *m, u64 l0, u64 l1, u64 l2, u32 l3) {
     L6:;
     t0 = l4 + 184ull;
     t1 = I64_LOAD(m, l12);
-    f209(m, t0, l10, l11, t1);
+    f204(m, t0, l10, l11, t1);
     t0 = I64_LOAD(m, l4 + 200u);
     I64_STORE(m, l4 + 112u, t0);
     t0 = I64_LOAD(m, l4 + 208u);
@@ -59427,7 +58489,7 @@ static void f190(Machine *m, u64 l0, u64 l1, u64 l2, u32 l3) {
     w0 = l5 == 0;
     if (w0) goto L10;
     t0 = l1 + 120ull;
-    f217(m, l4, t0, l2, l3);
+    f212(m, l4, t0, l2, l3);
     t0 = l0 + 8ull;
     I64_STORE(m, t0, l12);
     I32_STORE8(m, l0, 0u);
@@ -59533,8 +58595,8 @@ static void f190(Machine *m, u64 l0, u64 l1, u64 l2, u32 l3) {
     m->stack_pointer = t0;
 }
 
-/* bech32_near_search::gathering::push_with::<#d2fa12cfd4333d9e> */
-static u32 f191(Machine *m, u64 l0, u32 l1, u64 l2, u64 l3, u32 l4, u64 l5) {
+/* bech32_near::search::gathering::push_with::<#d2fa12cfd4333d9e> */
+static u32 f186(Machine *m, u64 l0, u32 l1, u64 l2, u64 l3, u32 l4, u64 l5) {
     u32 w0;
     u64 l7 = 0, l8 = 0, l9 = 0, l10 = 0, l11 = 0, t0, t1, t2;
     t0 = I64_LOAD(m, l2 + 24u);
@@ -59551,7 +58613,7 @@ static u32 f191(Machine *m, u64 l0, u32 l1, u64 l2, u64 l3, u32 l4, u64 l5) {
     t0 = w0 ? 16ull : 64ull;
     t0 = l0 + t0;
     t0 = I64_LOAD(m, t0);
-    w0 = f218(m, l10, l9, t0, l3, l4, l5);
+    w0 = f213(m, l10, l9, t0, l3, l4, l5);
     w0 = w0 & 255u;
     if (w0) goto L2;
     w0 = l9 == 0;
@@ -59793,7 +58855,7 @@ static u32 f191(Machine *m, u64 l0, u32 l1, u64 l2, u64 l3, u32 l4, u64 l5) {
 }
 
 /* smallvec::small_vec::SmallVec::reserve_one::<#acb99b7370c36cc0> */
-static u32 f192(Machine *m, u64 l0) {
+static u32 f187(Machine *m, u64 l0) {
     u32 l2 = 0, l5 = 0, w0;
     u64 l1 = 0, l3 = 0, l4 = 0, l6 = 0, l7 = 0, l8 = 0, l9 = 0, l10 = 0, l11 = 0, l12 = 0, l13 = 0, l14 = 0, t0, t1, t2;
     FRAME(m, 192u);
@@ -59997,7 +59059,7 @@ static u32 f192(Machine *m, u64 l0) {
     t0 = l1 + 184ull;
     I64_STORE(m, l1 + 152u, t0);
     t0 = l1 + 152ull;
-    w0 = f193(m, t0, l6);
+    w0 = f188(m, t0, l6);
     w0 = w0 & 255u;
     if (w0) goto L15;
     t0 = l0 + 8ull;
@@ -60195,7 +59257,7 @@ static u32 f192(Machine *m, u64 l0) {
     L22:;
     t0 = l0 + 8ull;
     t1 = l6 - l3;
-    w0 = f193(m, t0, t1);
+    w0 = f188(m, t0, t1);
     w0 = w0 & 255u;
     l5 = w0;
     L3:;
@@ -60207,7 +59269,7 @@ static u32 f192(Machine *m, u64 l0) {
 }
 
 /* std_alloc::vec::Vec::reserve_exact::<#7879ad4ca6a8a111> */
-static u32 f193(Machine *m, u64 l0, u64 l1) {
+static u32 f188(Machine *m, u64 l0, u64 l1) {
     u32 l3 = 0, l7 = 0, l10 = 0, w0;
     u64 l2 = 0, l4 = 0, l5 = 0, l6 = 0, l8 = 0, l9 = 0, t0, t1;
     FRAME(m, 32u);
@@ -60239,7 +59301,7 @@ static u32 f193(Machine *m, u64 l0, u64 l1) {
     if (w0) goto L3;
     t0 = l2 + 16ull;
     t1 = I64_LOAD(m, l0);
-    f194(m, t0, l6, t1, l5, l4, l1);
+    f189(m, t0, l6, t1, l5, l4, l1);
     t0 = I64_LOAD(m, l2 + 24u);
     l5 = t0;
     w0 = I32_LOAD8_U(m, l2 + 16u);
@@ -60273,7 +59335,7 @@ static u32 f193(Machine *m, u64 l0, u64 l1) {
     l10 = 1u;
     goto L4;
     L5:;
-    f162(m, l2, l4, l5, 8ull);
+    f158(m, l2, l4, l5, 8ull);
     t0 = I64_LOAD(m, l2 + 8u);
     l5 = t0;
     w0 = I32_LOAD8_U(m, l2);
@@ -60313,7 +59375,7 @@ static u32 f193(Machine *m, u64 l0, u64 l1) {
 }
 
 /* core::alloc::RefAllocator::grow::<#b415dcc1e2158e2c> */
-static void f194(Machine *m, u64 l0, u64 l1, u64 l2, u64 l3, u64 l4, u64 l5) {
+static void f189(Machine *m, u64 l0, u64 l1, u64 l2, u64 l3, u64 l4, u64 l5) {
     u32 l12 = 0, l14 = 0, w0;
     u64 l6 = 0, l7 = 0, l8 = 0, l9 = 0, l10 = 0, l11 = 0, l13 = 0, t0, t1;
     FRAME(m, 16u);
@@ -60460,7 +59522,7 @@ static void f194(Machine *m, u64 l0, u64 l1, u64 l2, u64 l3, u64 l4, u64 l5) {
     l14 = 1u;
     goto L3;
     L4:;
-    f162(m, l7, l8, l1, 8ull);
+    f158(m, l7, l8, l1, 8ull);
     t0 = I64_LOAD(m, l7 + 8u);
     l13 = t0;
     w0 = I32_LOAD8_U(m, l7);
@@ -60584,7 +59646,7 @@ static void f194(Machine *m, u64 l0, u64 l1, u64 l2, u64 l3, u64 l4, u64 l5) {
 }
 
 /* smallvec::small_vec::SmallVec::reserve_one::<#b72c247fcfb8f21c> */
-static u32 f195(Machine *m, u64 l0) {
+static u32 f190(Machine *m, u64 l0) {
     u32 l3 = 0, l5 = 0, w0;
     u64 l1 = 0, l2 = 0, l4 = 0, l6 = 0, l7 = 0, l8 = 0, l9 = 0, l10 = 0, l11 = 0, l12 = 0, l13 = 0, t0, t1, t2;
     FRAME(m, 80u);
@@ -60789,7 +59851,7 @@ static u32 f195(Machine *m, u64 l0) {
     t0 = l2 + 79ull;
     I64_STORE(m, l2 + 40u, t0);
     t0 = l2 + 40ull;
-    w0 = f196(m, t0, l6);
+    w0 = f191(m, t0, l6);
     w0 = w0 & 255u;
     if (w0) goto L12;
     t0 = l0 + 8ull;
@@ -60941,7 +60003,7 @@ static u32 f195(Machine *m, u64 l0) {
     L19:;
     t0 = l0 + 8ull;
     t1 = l6 - l1;
-    w0 = f196(m, t0, t1);
+    w0 = f191(m, t0, t1);
     w0 = w0 & 255u;
     l5 = w0;
     L3:;
@@ -60953,7 +60015,7 @@ static u32 f195(Machine *m, u64 l0) {
 }
 
 /* std_alloc::vec::Vec::reserve_exact::<#5512b62326e05f10> */
-static u32 f196(Machine *m, u64 l0, u64 l1) {
+static u32 f191(Machine *m, u64 l0, u64 l1) {
     u32 l3 = 0, l7 = 0, l10 = 0, w0;
     u64 l2 = 0, l4 = 0, l5 = 0, l6 = 0, l8 = 0, l9 = 0, t0, t1;
     FRAME(m, 32u);
@@ -60985,7 +60047,7 @@ static u32 f196(Machine *m, u64 l0, u64 l1) {
     if (w0) goto L3;
     t0 = l2 + 16ull;
     t1 = I64_LOAD(m, l0);
-    f197(m, t0, l6, t1, l5, l4, l1);
+    f192(m, t0, l6, t1, l5, l4, l1);
     t0 = I64_LOAD(m, l2 + 24u);
     l5 = t0;
     w0 = I32_LOAD8_U(m, l2 + 16u);
@@ -61018,7 +60080,7 @@ static u32 f196(Machine *m, u64 l0, u64 l1) {
     l10 = 1u;
     goto L4;
     L5:;
-    f162(m, l2, l4, l5, 1ull);
+    f158(m, l2, l4, l5, 1ull);
     t0 = I64_LOAD(m, l2 + 8u);
     l5 = t0;
     w0 = I32_LOAD8_U(m, l2);
@@ -61058,7 +60120,7 @@ static u32 f196(Machine *m, u64 l0, u64 l1) {
 }
 
 /* core::alloc::RefAllocator::grow::<#16a0592825cd98cd> */
-static void f197(Machine *m, u64 l0, u64 l1, u64 l2, u64 l3, u64 l4, u64 l5) {
+static void f192(Machine *m, u64 l0, u64 l1, u64 l2, u64 l3, u64 l4, u64 l5) {
     u32 l12 = 0, l14 = 0, w0;
     u64 l6 = 0, l7 = 0, l8 = 0, l9 = 0, l10 = 0, l11 = 0, l13 = 0, t0, t1;
     FRAME(m, 16u);
@@ -61203,7 +60265,7 @@ static void f197(Machine *m, u64 l0, u64 l1, u64 l2, u64 l3, u64 l4, u64 l5) {
     l14 = 1u;
     goto L3;
     L4:;
-    f162(m, l7, l8, l1, 1ull);
+    f158(m, l7, l8, l1, 1ull);
     t0 = I64_LOAD(m, l7 + 8u);
     l13 = t0;
     w0 = I32_LOAD8_U(m, l7);
@@ -61327,7 +60389,7 @@ static void f197(Machine *m, u64 l0, u64 l1, u64 l2, u64 l3, u64 l4, u64 l5) {
 }
 
 /* std_alloc::vec::Vec::drop::<#37e0ea504aa9c8ce> */
-static void f198(Machine *m, u64 l0) {
+static void f193(Machine *m, u64 l0) {
     u32 w0;
     u64 l1 = 0, l2 = 0, l3 = 0, t0, t1, t2;
     t0 = I64_LOAD(m, l0 + 16u);
@@ -61368,7 +60430,7 @@ static void f198(Machine *m, u64 l0) {
 }
 
 /* smallvec::small_vec::SmallVec::reserve_one::<#538566da973e1bf4> */
-static u32 f199(Machine *m, u64 l0) {
+static u32 f194(Machine *m, u64 l0) {
     u32 l3 = 0, l5 = 0, w0;
     u64 l1 = 0, l2 = 0, l4 = 0, l6 = 0, l7 = 0, l8 = 0, l9 = 0, l10 = 0, l11 = 0, l12 = 0, l13 = 0, l14 = 0, l15 = 0, l16 = 0, t0, t1;
     u64 t2;
@@ -61590,7 +60652,7 @@ static u32 f199(Machine *m, u64 l0) {
     t0 = l2 + 296ull;
     I64_STORE(m, l2 + 264u, t0);
     t0 = l2 + 264ull;
-    w0 = f204(m, t0, l6);
+    w0 = f199(m, t0, l6);
     w0 = w0 & 255u;
     if (w0) goto L15;
     t0 = l0 + 8ull;
@@ -61820,7 +60882,7 @@ static u32 f199(Machine *m, u64 l0) {
     L22:;
     t0 = l0 + 8ull;
     t1 = l6 - l1;
-    w0 = f204(m, t0, t1);
+    w0 = f199(m, t0, t1);
     w0 = w0 & 255u;
     l5 = w0;
     L3:;
@@ -61832,7 +60894,7 @@ static u32 f199(Machine *m, u64 l0) {
 }
 
 /* bech32_bch::short_vec::ShortVec::from_slice::<#1e5c360d99c35ae5> */
-static void f200(Machine *m, u64 l0, u64 l1, u64 l2, u64 l3) {
+static void f195(Machine *m, u64 l0, u64 l1, u64 l2, u64 l3) {
     u32 l6 = 0, l8 = 0, l9 = 0, w0;
     u64 l4 = 0, l5 = 0, l7 = 0, l10 = 0, t0, t1, t2;
     FRAME(m, 144u);
@@ -61869,7 +60931,7 @@ static void f200(Machine *m, u64 l0, u64 l1, u64 l2, u64 l3) {
     w0 = t0 != t1;
     if (w0) goto L6;
     t0 = l4 + 8ull;
-    w0 = f199(m, t0);
+    w0 = f194(m, t0);
     l9 = w0;
     w0 = I32_LOAD8_U(m, l4 + 8u);
     l8 = w0;
@@ -61967,7 +61029,7 @@ static void f200(Machine *m, u64 l0, u64 l1, u64 l2, u64 l3) {
 }
 
 /* bech32_finders::erased::listing_of::<#7a7b4d3859a9cb38> */
-static void f201(Machine *m, u64 l0, u64 l1, u64 l2, u64 l3, u64 l4) {
+static void f196(Machine *m, u64 l0, u64 l1, u64 l2, u64 l3, u64 l4) {
     u32 l7 = 0, l9 = 0, l10 = 0, w0;
     u64 l5 = 0, l6 = 0, l8 = 0, l11 = 0, t0, t1, t2;
     FRAME(m, 144u);
@@ -62005,7 +61067,7 @@ static void f201(Machine *m, u64 l0, u64 l1, u64 l2, u64 l3, u64 l4) {
     w0 = t0 != t1;
     if (w0) goto L6;
     t0 = l5 + 8ull;
-    w0 = f199(m, t0);
+    w0 = f194(m, t0);
     l10 = w0;
     w0 = I32_LOAD8_U(m, l5 + 8u);
     l9 = w0;
@@ -62106,7 +61168,7 @@ static void f201(Machine *m, u64 l0, u64 l1, u64 l2, u64 l3, u64 l4) {
 }
 
 /* bech32_finders::correction::correct_by_roots::<#d2fa12cfd4333d9e> */
-static void f202(Machine *m, u64 l0, u64 l1, u64 l2, u64 l3, u64 l4, u64 l5) {
+static void f197(Machine *m, u64 l0, u64 l1, u64 l2, u64 l3, u64 l4, u64 l5) {
     u32 l7 = 0, w0;
     u64 l6 = 0, l8 = 0, t0, t1, t2;
     FRAME(m, 448u);
@@ -62125,7 +61187,7 @@ static void f202(Machine *m, u64 l0, u64 l1, u64 l2, u64 l3, u64 l4, u64 l5) {
     I64_STORE(m, l6 + 136u, 1537ull);
     t0 = l6 + 160ull;
     t1 = l6 + 136ull;
-    f207(m, t0, l1, t1, l2, l3, l4, l5);
+    f202(m, t0, l1, t1, l2, l3, l4, l5);
     w0 = I32_LOAD8_U(m, l6 + 160u);
     if (w0) goto L5;
     w0 = I32_LOAD8_U(m, l6 + 168u);
@@ -62225,7 +61287,7 @@ static void f202(Machine *m, u64 l0, u64 l1, u64 l2, u64 l3, u64 l4, u64 l5) {
 }
 
 /* bech32_bch::short_vec::ShortVec::push::<#9ec199dfb8560309> */
-static u32 f203(Machine *m, u64 l0, u64 l1, u32 l2) {
+static u32 f198(Machine *m, u64 l0, u64 l1, u32 l2) {
     u32 l4 = 0, w0;
     u64 l5 = 0, l6 = 0, l7 = 0, t0, t1;
     w0 = I32_LOAD8_U(m, l0);
@@ -62245,7 +61307,7 @@ static u32 f203(Machine *m, u64 l0, u64 l1, u32 l2) {
     w0 = l5 != l6;
     if (w0) goto L4;
     l4 = 1u;
-    w0 = f199(m, l0);
+    w0 = f194(m, l0);
     w0 = w0 & 255u;
     if (w0) goto L3;
     w0 = I32_LOAD8_U(m, l0);
@@ -62292,7 +61354,7 @@ static u32 f203(Machine *m, u64 l0, u64 l1, u32 l2) {
 }
 
 /* std_alloc::vec::Vec::reserve_exact::<#dacb6d822ceba3c4> */
-static u32 f204(Machine *m, u64 l0, u64 l1) {
+static u32 f199(Machine *m, u64 l0, u64 l1) {
     u32 l3 = 0, l7 = 0, l10 = 0, w0;
     u64 l2 = 0, l4 = 0, l5 = 0, l6 = 0, l8 = 0, l9 = 0, t0, t1;
     FRAME(m, 32u);
@@ -62324,7 +61386,7 @@ static u32 f204(Machine *m, u64 l0, u64 l1) {
     if (w0) goto L3;
     t0 = l2 + 16ull;
     t1 = I64_LOAD(m, l0);
-    f205(m, t0, l6, t1, l5, l4, l1);
+    f200(m, t0, l6, t1, l5, l4, l1);
     t0 = I64_LOAD(m, l2 + 24u);
     l5 = t0;
     w0 = I32_LOAD8_U(m, l2 + 16u);
@@ -62358,7 +61420,7 @@ static u32 f204(Machine *m, u64 l0, u64 l1) {
     l10 = 1u;
     goto L4;
     L5:;
-    f162(m, l2, l4, l5, 8ull);
+    f158(m, l2, l4, l5, 8ull);
     t0 = I64_LOAD(m, l2 + 8u);
     l5 = t0;
     w0 = I32_LOAD8_U(m, l2);
@@ -62398,7 +61460,7 @@ static u32 f204(Machine *m, u64 l0, u64 l1) {
 }
 
 /* core::alloc::RefAllocator::grow::<#30a8f570e30488ab> */
-static void f205(Machine *m, u64 l0, u64 l1, u64 l2, u64 l3, u64 l4, u64 l5) {
+static void f200(Machine *m, u64 l0, u64 l1, u64 l2, u64 l3, u64 l4, u64 l5) {
     u32 l12 = 0, l15 = 0, w0;
     u64 l6 = 0, l7 = 0, l8 = 0, l9 = 0, l10 = 0, l11 = 0, l13 = 0, l14 = 0, t0, t1;
     FRAME(m, 16u);
@@ -62566,7 +61628,7 @@ static void f205(Machine *m, u64 l0, u64 l1, u64 l2, u64 l3, u64 l4, u64 l5) {
     l15 = 1u;
     goto L3;
     L4:;
-    f162(m, l7, l8, l1, 8ull);
+    f158(m, l7, l8, l1, 8ull);
     t0 = I64_LOAD(m, l7 + 8u);
     l9 = t0;
     w0 = I32_LOAD8_U(m, l7);
@@ -62711,7 +61773,7 @@ static void f205(Machine *m, u64 l0, u64 l1, u64 l2, u64 l3, u64 l4, u64 l5) {
 }
 
 /* std_alloc::vec::Vec::drop::<#73e46756942d5d80> */
-static void f206(Machine *m, u64 l0) {
+static void f201(Machine *m, u64 l0) {
     u32 w0;
     u64 l1 = 0, l2 = 0, l3 = 0, t0, t1, t2;
     t0 = I64_LOAD(m, l0 + 16u);
@@ -62751,8 +61813,8 @@ static void f206(Machine *m, u64 l0) {
     return;
 }
 
-/* bech32_bch::decoder::candidate::<#5ae0824217a14cf9> */
-static void f207(Machine *m, u64 l0, u64 l1, u64 l2, u64 l3, u64 l4, u64 l5, u64 l6) {
+/* bech32_bch::decoder::decode_errors::<#5ae0824217a14cf9> */
+static void f202(Machine *m, u64 l0, u64 l1, u64 l2, u64 l3, u64 l4, u64 l5, u64 l6) {
     u32 l10 = 0, l11 = 0, l12 = 0, l16 = 0, l18 = 0, l21 = 0, l22 = 0, l23 = 0, l24 = 0, l29 = 0, l31 = 0, l35 = 0, l37 = 0, l39 = 0, l41 = 0, w0;
     u32 w1, w2, w3;
     u64 l7 = 0, l8 = 0, l9 = 0, l13 = 0, l14 = 0, l15 = 0, l17 = 0, l19 = 0, l20 = 0, l25 = 0, l26 = 0, l27 = 0, l28 = 0, l30 = 0, l32 = 0, l33 = 0;
@@ -63010,7 +62072,7 @@ static void f207(Machine *m, u64 l0, u64 l1, u64 l2, u64 l3, u64 l4, u64 l5, u64
     w0 = t0 != t1;
     if (w0) goto L31;
     t0 = l7 + 1152ull;
-    w0 = f195(m, t0);
+    w0 = f190(m, t0);
     l22 = w0;
     w0 = I32_LOAD8_U(m, l7 + 1152u);
     l10 = w0;
@@ -63169,7 +62231,7 @@ static void f207(Machine *m, u64 l0, u64 l1, u64 l2, u64 l3, u64 l4, u64 l5, u64
     I64_STORE(m, l7 + 1184u, 0ull);
     I64_STORE(m, l7 + 1192u, 0ull);
     t0 = l7 + 1152ull;
-    f208(m, t0, l1, l4, l2, l19, l17);
+    f203(m, t0, l1, l4, l2, l19, l17);
     w0 = I32_LOAD8_U(m, l7 + 1152u);
     if (w0) goto L7;
     t0 = l2 - l15;
@@ -63441,7 +62503,7 @@ static void f207(Machine *m, u64 l0, u64 l1, u64 l2, u64 l3, u64 l4, u64 l5, u64
     w0 = t0 != t1;
     if (w0) goto L50;
     t0 = l7 + 1328ull;
-    w0 = f195(m, t0);
+    w0 = f190(m, t0);
     l21 = w0;
     w0 = I32_LOAD8_U(m, l7 + 1328u);
     l12 = w0;
@@ -63488,7 +62550,7 @@ static void f207(Machine *m, u64 l0, u64 l1, u64 l2, u64 l3, u64 l4, u64 l5, u64
     w0 = t0 != t1;
     if (w0) goto L55;
     t0 = l7 + 1328ull;
-    w0 = f195(m, t0);
+    w0 = f190(m, t0);
     l22 = w0;
     w0 = I32_LOAD8_U(m, l7 + 1328u);
     l12 = w0;
@@ -63969,7 +63031,7 @@ static void f207(Machine *m, u64 l0, u64 l1, u64 l2, u64 l3, u64 l4, u64 l5, u64
     l28 = t2;
     t2 = I64_LOAD(m, l7 + 616u);
     t2 = l12 ? l28 : t2;
-    f209(m, t0, l1, t1, t2);
+    f204(m, t0, l1, t1, t2);
     w0 = I32_LOAD8_U(m, l7 + 944u);
     if (w0) goto L5;
     w0 = I32_LOAD8_U(m, l7 + 952u);
@@ -64012,7 +63074,7 @@ static void f207(Machine *m, u64 l0, u64 l1, u64 l2, u64 l3, u64 l4, u64 l5, u64
     w0 = t0 != t1;
     if (w0) goto L76;
     t0 = l7 + 1288ull;
-    w0 = f195(m, t0);
+    w0 = f190(m, t0);
     l21 = w0;
     w0 = I32_LOAD8_U(m, l7 + 1288u);
     l12 = w0;
@@ -64162,7 +63224,7 @@ static void f207(Machine *m, u64 l0, u64 l1, u64 l2, u64 l3, u64 l4, u64 l5, u64
     w0 = l6 != t0;
     if (w0) goto L87;
     t0 = l7 + 1152ull;
-    w0 = f192(m, t0);
+    w0 = f187(m, t0);
     w0 = w0 & 255u;
     w0 = w0 == 0;
     if (w0) goto L88;
@@ -64582,7 +63644,7 @@ static void f207(Machine *m, u64 l0, u64 l1, u64 l2, u64 l3, u64 l4, u64 l5, u64
     w0 = t0 != t1;
     if (w0) goto L118;
     t0 = l7 + 1152ull;
-    w0 = f192(m, t0);
+    w0 = f187(m, t0);
     w0 = w0 & 255u;
     if (w0) goto L106;
     w0 = I32_LOAD8_U(m, l7 + 1152u);
@@ -64635,7 +63697,7 @@ static void f207(Machine *m, u64 l0, u64 l1, u64 l2, u64 l3, u64 l4, u64 l5, u64
     w0 = t0 != t1;
     if (w0) goto L122;
     t0 = l7 + 1152ull;
-    w0 = f192(m, t0);
+    w0 = f187(m, t0);
     w0 = w0 & 255u;
     if (w0) goto L106;
     w0 = I32_LOAD8_U(m, l7 + 1152u);
@@ -64972,7 +64034,7 @@ static void f207(Machine *m, u64 l0, u64 l1, u64 l2, u64 l3, u64 l4, u64 l5, u64
     t0 = I64_LOAD(m, l7 + 408u);
     I64_STORE(m, l7 + 48u, t0);
     t0 = l7 + 48ull;
-    f198(m, t0);
+    f193(m, t0);
     L139:;
     I32_STORE8(m, l0, 0u);
     t0 = l0 + 8ull;
@@ -65021,7 +64083,7 @@ static void f207(Machine *m, u64 l0, u64 l1, u64 l2, u64 l3, u64 l4, u64 l5, u64
     t0 = l7 + 1152ull;
     MEMORY_FILL(m, t0, 0u, 88ull);
     t0 = l7 + 1152ull;
-    f210(m, t0, l1, l2, l17);
+    f205(m, t0, l1, l2, l17);
     w0 = I32_LOAD8_U(m, l7 + 1152u);
     if (w0) goto L150;
     w0 = I32_LOAD8_U(m, l7 + 1160u);
@@ -65054,7 +64116,7 @@ static void f207(Machine *m, u64 l0, u64 l1, u64 l2, u64 l3, u64 l4, u64 l5, u64
     w0 = t0 != t1;
     if (w0) goto L154;
     t0 = l7 + 1328ull;
-    w0 = f192(m, t0);
+    w0 = f187(m, t0);
     l10 = w0;
     w0 = I32_LOAD8_U(m, l7 + 1328u);
     l12 = w0;
@@ -65124,7 +64186,7 @@ static void f207(Machine *m, u64 l0, u64 l1, u64 l2, u64 l3, u64 l4, u64 l5, u64
     t0 = l7 + 784ull;
     t1 = l12 ? l40 : l4;
     l34 = t1;
-    f171(m, t0, l1, l11, l34, l6);
+    f167(m, t0, l1, l11, l34, l6);
     w0 = I32_LOAD8_U(m, l7 + 784u);
     if (w0) goto L147;
     w0 = I32_LOAD8_U(m, l7 + 792u);
@@ -65261,7 +64323,7 @@ static void f207(Machine *m, u64 l0, u64 l1, u64 l2, u64 l3, u64 l4, u64 l5, u64
     w0 = t0 != t1;
     if (w0) goto L163;
     t0 = l7 + 1328ull;
-    w0 = f195(m, t0);
+    w0 = f190(m, t0);
     l21 = w0;
     w0 = I32_LOAD8_U(m, l7 + 1328u);
     l12 = w0;
@@ -65514,7 +64576,7 @@ static void f207(Machine *m, u64 l0, u64 l1, u64 l2, u64 l3, u64 l4, u64 l5, u64
     l19 = t1;
     t1 = l12 ? l17 : l2;
     l17 = t1;
-    f208(m, t0, l5, l42, l33, l19, l17);
+    f203(m, t0, l5, l42, l33, l19, l17);
     l21 = 0u;
     l10 = 0u;
     w0 = I32_LOAD8_U(m, l7 + 1328u);
@@ -65628,7 +64690,7 @@ static void f207(Machine *m, u64 l0, u64 l1, u64 l2, u64 l3, u64 l4, u64 l5, u64
     w0 = t0 != t1;
     if (w0) goto L182;
     t0 = l7 + 1152ull;
-    w0 = f199(m, t0);
+    w0 = f194(m, t0);
     w0 = w0 & 255u;
     if (w0) goto L145;
     w0 = I32_LOAD8_U(m, l7 + 1152u);
@@ -65910,7 +64972,7 @@ static void f207(Machine *m, u64 l0, u64 l1, u64 l2, u64 l3, u64 l4, u64 l5, u64
     w0 = l18 & 255u;
     w0 = w0 != 1u;
     if (w0) goto L197;
-    f211(m, l36);
+    f206(m, l36);
     L197:;
     w0 = I32_LOAD8_U(m, l7 + 400u);
     w0 = w0 != 1u;
@@ -65924,7 +64986,7 @@ static void f207(Machine *m, u64 l0, u64 l1, u64 l2, u64 l3, u64 l4, u64 l5, u64
     t0 = I64_LOAD(m, l7 + 408u);
     I64_STORE(m, l7 + 16u, t0);
     t0 = l7 + 16ull;
-    f198(m, t0);
+    f193(m, t0);
     L198:;
     I32_STORE8(m, l0, l12);
     t0 = l0 + 16ull;
@@ -65940,7 +65002,7 @@ static void f207(Machine *m, u64 l0, u64 l1, u64 l2, u64 l3, u64 l4, u64 l5, u64
 }
 
 /* bech32_bch::terms::without_terms::<#7e90339e1e86e315> */
-static void f208(Machine *m, u64 l0, u64 l1, u64 l2, u64 l3, u64 l4, u64 l5) {
+static void f203(Machine *m, u64 l0, u64 l1, u64 l2, u64 l3, u64 l4, u64 l5) {
     u32 l9 = 0, l10 = 0, l11 = 0, l15 = 0, l18 = 0, l19 = 0, l20 = 0, l21 = 0, l22 = 0, w0, w1;
     u64 l6 = 0, l7 = 0, l8 = 0, l12 = 0, l13 = 0, l14 = 0, l16 = 0, l17 = 0, t0, t1;
     FRAME(m, 96u);
@@ -65956,7 +65018,7 @@ static void f208(Machine *m, u64 l0, u64 l1, u64 l2, u64 l3, u64 l4, u64 l5) {
     I64_STORE(m, l7 + 16u, 0ull);
     I64_STORE(m, l7 + 8u, 0ull);
     t0 = l7 + 8ull;
-    f209(m, t0, l1, l2, l3);
+    f204(m, t0, l1, l2, l3);
     w0 = I32_LOAD8_U(m, l7 + 8u);
     if (w0) goto L2;
     t0 = I64_LOAD8_U(m, l7 + 16u);
@@ -66152,7 +65214,7 @@ static void f208(Machine *m, u64 l0, u64 l1, u64 l2, u64 l3, u64 l4, u64 l5) {
 }
 
 /* bech32_poly::fieldvec::FieldVec::from_slice::<#9c961d3cdf6528f8> */
-static void f209(Machine *m, u64 l0, u64 l1, u64 l2, u64 l3) {
+static void f204(Machine *m, u64 l0, u64 l1, u64 l2, u64 l3) {
     u32 l6 = 0, l7 = 0, l8 = 0, w0;
     u64 l4 = 0, l5 = 0, t0, t1, t2;
     FRAME(m, 48u);
@@ -66184,7 +65246,7 @@ static void f209(Machine *m, u64 l0, u64 l1, u64 l2, u64 l3) {
     w0 = t0 != t1;
     if (w0) goto L5;
     t0 = l4 + 8ull;
-    w0 = f195(m, t0);
+    w0 = f190(m, t0);
     l8 = w0;
     w0 = I32_LOAD8_U(m, l4 + 8u);
     l7 = w0;
@@ -66293,7 +65355,7 @@ static void f209(Machine *m, u64 l0, u64 l1, u64 l2, u64 l3) {
 }
 
 /* bech32_bch::short_vec::ShortVec::from_slice::<#9a572e5ad2b5a849> */
-static void f210(Machine *m, u64 l0, u64 l1, u64 l2, u64 l3) {
+static void f205(Machine *m, u64 l0, u64 l1, u64 l2, u64 l3) {
     u32 l6 = 0, l7 = 0, w0;
     u64 l4 = 0, l5 = 0, l8 = 0, t0, t1, t2;
     FRAME(m, 80u);
@@ -66324,7 +65386,7 @@ static void f210(Machine *m, u64 l0, u64 l1, u64 l2, u64 l3) {
     t1 = l6 ? t1 : 7ull;
     w0 = t0 != t1;
     if (w0) goto L6;
-    w0 = f192(m, l4);
+    w0 = f187(m, l4);
     l7 = w0;
     w0 = I32_LOAD8_U(m, l4);
     l6 = w0;
@@ -66414,7 +65476,7 @@ static void f210(Machine *m, u64 l0, u64 l1, u64 l2, u64 l3) {
 }
 
 /* std_alloc::vec::Vec::drop::<#34d8a8b621aaf5c1> */
-static void f211(Machine *m, u64 l0) {
+static void f206(Machine *m, u64 l0) {
     u32 w0;
     u64 l1 = 0, l2 = 0, l3 = 0, t0, t1, t2;
     t0 = I64_LOAD(m, l0 + 16u);
@@ -66454,8 +65516,145 @@ static void f211(Machine *m, u64 l0) {
     return;
 }
 
+/* std_alloc::vec::Vec::drop::<#fe56062bc9cf4283> */
+static void f207(Machine *m, u64 l0) {
+    u32 w0;
+    u64 l1 = 0, l2 = 0, l3 = 0, t0, t1, t2;
+    t0 = I64_LOAD(m, l0 + 16u);
+    l1 = t0;
+    w0 = l1 == 0;
+    if (w0) goto L1;
+    t0 = I64_LOAD(m, l0 + 24u);
+    l2 = t0;
+    t0 = l2 + 16ull;
+    t0 = I64_LOAD(m, t0);
+    w0 = t0 != 1ull;
+    if (w0) goto L2;
+    t0 = I64_LOAD(m, l0);
+    t1 = l2 + 8ull;
+    t1 = I64_LOAD(m, t1);
+    l0 = t1;
+    t1 = I64_LOAD(m, l0);
+    t2 = l0 + 32ull;
+    l0 = t2;
+    t2 = I64_LOAD(m, l0);
+    l3 = t2;
+    t1 = t1 + l3;
+    w0 = t0 != t1;
+    if (w0) goto L2;
+    t0 = l1 << 4;
+    t0 = l3 + t0;
+    I64_STORE(m, l0, t0);
+    L2:;
+    t0 = l2 + 24ull;
+    l0 = t0;
+    t0 = I64_LOAD(m, l0);
+    t0 = t0 + 18446744073709551615ull;
+    I64_STORE(m, l0, t0);
+    L1:;
+    return;
+    TRAP(m);
+    return;
+}
+
+/* std_alloc::vec::Vec::move_to::<#be7779d8f3d8b816> */
+static u32 f208(Machine *m, u64 l0, u64 l1) {
+    u32 l3 = 0, l6 = 0, l10 = 0, w0;
+    u64 l2 = 0, l4 = 0, l5 = 0, l7 = 0, l8 = 0, l9 = 0, t0, t1, t2;
+    FRAME(m, 32u);
+    t0 = m->stack_pointer;
+    t0 = t0 - 32ull;
+    l2 = t0;
+    m->stack_pointer = l2;
+    l3 = 0u;
+    w0 = l1 >= 67818912035696881ull;
+    if (w0) goto L1;
+    t0 = l0 + 24ull;
+    l4 = t0;
+    t0 = l0 + 16ull;
+    t0 = I64_LOAD(m, t0);
+    l5 = t0;
+    w0 = l5 == 0;
+    if (w0) goto L3;
+    t0 = l2 + 16ull;
+    t1 = I64_LOAD(m, l0);
+    t2 = l0 + 8ull;
+    t2 = I64_LOAD(m, t2);
+    f209(m, t0, l4, t1, t2, l5, l1);
+    t0 = I64_LOAD(m, l2 + 24u);
+    l4 = t0;
+    w0 = I32_LOAD8_U(m, l2 + 16u);
+    l6 = w0;
+    goto L2;
+    L3:;
+    t0 = l1 * 136ull;
+    l5 = t0;
+    t0 = I64_LOAD(m, l4);
+    l7 = t0;
+    t0 = l7 + 16ull;
+    t0 = I64_LOAD(m, t0);
+    w0 = t0 == 0;
+    if (w0) goto L5;
+    t0 = l7 + 8ull;
+    t0 = I64_LOAD(m, t0);
+    l4 = t0;
+    t0 = l4 + 32ull;
+    l8 = t0;
+    t0 = I64_LOAD(m, l8);
+    t0 = t0 & 18446744073709551608ull;
+    l9 = t0;
+    w0 = l9 < l5;
+    if (w0) goto L5;
+    t0 = l9 - l5;
+    l5 = t0;
+    I64_STORE(m, l8, l5);
+    t0 = I64_LOAD(m, l4);
+    t0 = t0 + l5;
+    l4 = t0;
+    l10 = 1u;
+    goto L4;
+    L5:;
+    f158(m, l2, l7, l5, 8ull);
+    t0 = I64_LOAD(m, l2 + 8u);
+    l4 = t0;
+    w0 = I32_LOAD8_U(m, l2);
+    l10 = w0;
+    L4:;
+    l6 = 1u;
+    w0 = l10 & 1u;
+    if (w0) goto L6;
+    l4 = 0ull;
+    goto L2;
+    L6:;
+    t0 = l7 + 24ull;
+    l5 = t0;
+    t0 = I64_LOAD(m, l5);
+    l7 = t0;
+    w0 = l7 != 18446744073709551615ull;
+    if (w0) goto L7;
+    l4 = 0ull;
+    goto L2;
+    L7:;
+    t0 = l7 + 1ull;
+    I64_STORE(m, l5, t0);
+    l6 = 0u;
+    L2:;
+    w0 = l6 & 255u;
+    if (w0) goto L1;
+    t0 = l0 + 16ull;
+    I64_STORE(m, t0, l1);
+    I64_STORE(m, l0, l4);
+    l3 = 1u;
+    L1:;
+    t0 = l2 + 32ull;
+    m->stack_pointer = t0;
+    return l3;
+    TRAP(m);
+    return 0;
+}
+
 /* core::alloc::RefAllocator::grow::<#25da31a2b42b6bdc> */
-static void f212(Machine *m, u64 l0, u64 l1, u64 l2, u64 l3, u64 l4, u64 l5) {
+static void f209(Machine *m, u64 l0, u64 l1, u64 l2, u64 l3, u64 l4, u64 l5) {
     u32 l12 = 0, l13 = 0, w0;
     u64 l6 = 0, l7 = 0, l8 = 0, l9 = 0, l10 = 0, l11 = 0, l14 = 0, l15 = 0, t0, t1;
     FRAME(m, 144u);
@@ -66600,7 +65799,7 @@ static void f212(Machine *m, u64 l0, u64 l1, u64 l2, u64 l3, u64 l4, u64 l5) {
     l12 = 1u;
     goto L3;
     L4:;
-    f162(m, l6, l7, l5, 8ull);
+    f158(m, l6, l7, l5, 8ull);
     t0 = I64_LOAD(m, l6 + 8u);
     l10 = t0;
     w0 = I32_LOAD8_U(m, l6);
@@ -66728,7 +65927,7 @@ static void f212(Machine *m, u64 l0, u64 l1, u64 l2, u64 l3, u64 l4, u64 l5) {
 }
 
 /* core::alloc::RefAllocator::grow::<#5fbf5b0d6bc30b65> */
-static void f213(Machine *m, u64 l0, u64 l1, u64 l2, u64 l3, u64 l4, u64 l5) {
+static void f210(Machine *m, u64 l0, u64 l1, u64 l2, u64 l3, u64 l4, u64 l5) {
     u32 l12 = 0, l15 = 0, w0;
     u64 l6 = 0, l7 = 0, l8 = 0, l9 = 0, l10 = 0, l11 = 0, l13 = 0, l14 = 0, t0, t1;
     FRAME(m, 16u);
@@ -66896,7 +66095,7 @@ static void f213(Machine *m, u64 l0, u64 l1, u64 l2, u64 l3, u64 l4, u64 l5) {
     l15 = 1u;
     goto L3;
     L4:;
-    f162(m, l7, l8, l1, 8ull);
+    f158(m, l7, l8, l1, 8ull);
     t0 = I64_LOAD(m, l7 + 8u);
     l9 = t0;
     w0 = I32_LOAD8_U(m, l7);
@@ -67040,8 +66239,8 @@ static void f213(Machine *m, u64 l0, u64 l1, u64 l2, u64 l3, u64 l4, u64 l5) {
     return;
 }
 
-/* bech32_near_search::gathering::gather_with::<#d2fa12cfd4333d9e> */
-static u32 f214(Machine *m, u64 l0, u64 l1, u32 l2, u64 l3, u64 l4) {
+/* bech32_near::search::gathering::gather_with::<#d2fa12cfd4333d9e> */
+static u32 f211(Machine *m, u64 l0, u64 l1, u32 l2, u64 l3, u64 l4) {
     u32 l6 = 0, w0, w1;
     u64 l5 = 0, l7 = 0, t0, t1, t2;
     FRAME(m, 368u);
@@ -67050,7 +66249,7 @@ static u32 f214(Machine *m, u64 l0, u64 l1, u32 l2, u64 l3, u64 l4) {
     l5 = t0;
     m->stack_pointer = l5;
     MEMORY_FILL(m, l5, 0u, 168ull);
-    f190(m, l5, l0, l1, l2);
+    f185(m, l5, l0, l1, l2);
     l6 = 1u;
     w0 = I32_LOAD8_U(m, l5);
     if (w0) goto L1;
@@ -67068,10 +66267,10 @@ static u32 f214(Machine *m, u64 l0, u64 l1, u32 l2, u64 l3, u64 l4) {
     I64_STORE(m, l5 + 168u, t0);
     t0 = l5 + 200ull;
     t1 = l5 + 168ull;
-    w0 = f187(m, t0, l3, l1, t1);
+    w0 = f182(m, t0, l3, l1, t1);
     w0 = w0 & 255u;
     t0 = l5 + 168ull;
-    w0 = f191(m, l0, w0, t0, l1, l2, l4);
+    w0 = f186(m, l0, w0, t0, l1, l2, l4);
     l2 = w0;
     w0 = I32_LOAD8_U(m, l5 + 200u);
     w0 = w0 != 1u;
@@ -67218,145 +66417,8 @@ static u32 f214(Machine *m, u64 l0, u64 l1, u32 l2, u64 l3, u64 l4) {
     return 0;
 }
 
-/* std_alloc::vec::Vec::drop::<#bab091be0e81e618> */
-static void f215(Machine *m, u64 l0) {
-    u32 w0;
-    u64 l1 = 0, l2 = 0, l3 = 0, t0, t1, t2;
-    t0 = I64_LOAD(m, l0 + 16u);
-    l1 = t0;
-    w0 = l1 == 0;
-    if (w0) goto L1;
-    t0 = I64_LOAD(m, l0 + 24u);
-    l2 = t0;
-    t0 = l2 + 16ull;
-    t0 = I64_LOAD(m, t0);
-    w0 = t0 != 1ull;
-    if (w0) goto L2;
-    t0 = I64_LOAD(m, l0);
-    t1 = l2 + 8ull;
-    t1 = I64_LOAD(m, t1);
-    l0 = t1;
-    t1 = I64_LOAD(m, l0);
-    t2 = l0 + 32ull;
-    l0 = t2;
-    t2 = I64_LOAD(m, l0);
-    l3 = t2;
-    t1 = t1 + l3;
-    w0 = t0 != t1;
-    if (w0) goto L2;
-    t0 = l1 << 4;
-    t0 = l3 + t0;
-    I64_STORE(m, l0, t0);
-    L2:;
-    t0 = l2 + 24ull;
-    l0 = t0;
-    t0 = I64_LOAD(m, l0);
-    t0 = t0 + 18446744073709551615ull;
-    I64_STORE(m, l0, t0);
-    L1:;
-    return;
-    TRAP(m);
-    return;
-}
-
-/* std_alloc::vec::Vec::move_to::<#13765d60f14e91c0> */
-static u32 f216(Machine *m, u64 l0, u64 l1) {
-    u32 l3 = 0, l6 = 0, l10 = 0, w0;
-    u64 l2 = 0, l4 = 0, l5 = 0, l7 = 0, l8 = 0, l9 = 0, t0, t1, t2;
-    FRAME(m, 32u);
-    t0 = m->stack_pointer;
-    t0 = t0 - 32ull;
-    l2 = t0;
-    m->stack_pointer = l2;
-    l3 = 0u;
-    w0 = l1 >= 67818912035696881ull;
-    if (w0) goto L1;
-    t0 = l0 + 24ull;
-    l4 = t0;
-    t0 = l0 + 16ull;
-    t0 = I64_LOAD(m, t0);
-    l5 = t0;
-    w0 = l5 == 0;
-    if (w0) goto L3;
-    t0 = l2 + 16ull;
-    t1 = I64_LOAD(m, l0);
-    t2 = l0 + 8ull;
-    t2 = I64_LOAD(m, t2);
-    f212(m, t0, l4, t1, t2, l5, l1);
-    t0 = I64_LOAD(m, l2 + 24u);
-    l4 = t0;
-    w0 = I32_LOAD8_U(m, l2 + 16u);
-    l6 = w0;
-    goto L2;
-    L3:;
-    t0 = l1 * 136ull;
-    l5 = t0;
-    t0 = I64_LOAD(m, l4);
-    l7 = t0;
-    t0 = l7 + 16ull;
-    t0 = I64_LOAD(m, t0);
-    w0 = t0 == 0;
-    if (w0) goto L5;
-    t0 = l7 + 8ull;
-    t0 = I64_LOAD(m, t0);
-    l4 = t0;
-    t0 = l4 + 32ull;
-    l8 = t0;
-    t0 = I64_LOAD(m, l8);
-    t0 = t0 & 18446744073709551608ull;
-    l9 = t0;
-    w0 = l9 < l5;
-    if (w0) goto L5;
-    t0 = l9 - l5;
-    l5 = t0;
-    I64_STORE(m, l8, l5);
-    t0 = I64_LOAD(m, l4);
-    t0 = t0 + l5;
-    l4 = t0;
-    l10 = 1u;
-    goto L4;
-    L5:;
-    f162(m, l2, l7, l5, 8ull);
-    t0 = I64_LOAD(m, l2 + 8u);
-    l4 = t0;
-    w0 = I32_LOAD8_U(m, l2);
-    l10 = w0;
-    L4:;
-    l6 = 1u;
-    w0 = l10 & 1u;
-    if (w0) goto L6;
-    l4 = 0ull;
-    goto L2;
-    L6:;
-    t0 = l7 + 24ull;
-    l5 = t0;
-    t0 = I64_LOAD(m, l5);
-    l7 = t0;
-    w0 = l7 != 18446744073709551615ull;
-    if (w0) goto L7;
-    l4 = 0ull;
-    goto L2;
-    L7:;
-    t0 = l7 + 1ull;
-    I64_STORE(m, l5, t0);
-    l6 = 0u;
-    L2:;
-    w0 = l6 & 255u;
-    if (w0) goto L1;
-    t0 = l0 + 16ull;
-    I64_STORE(m, t0, l1);
-    I64_STORE(m, l0, l4);
-    l3 = 1u;
-    L1:;
-    t0 = l2 + 32ull;
-    m->stack_pointer = t0;
-    return l3;
-    TRAP(m);
-    return 0;
-}
-
-/* bech32_finders::division::residue_without::<#39fd342f4eda3caf> */
-static void f217(Machine *m, u64 l0, u64 l1, u64 l2, u32 l3) {
+/* bech32_finders::division::residue_after_removing::<#39fd342f4eda3caf> */
+static void f212(Machine *m, u64 l0, u64 l1, u64 l2, u32 l3) {
     u32 l4 = 0, l5 = 0, l8 = 0, l9 = 0, l10 = 0, l11 = 0, l12 = 0, w0, w1, w2;
     u64 l6 = 0, l7 = 0, t0;
     w0 = l3 & 255u;
@@ -67464,8 +66526,8 @@ static void f217(Machine *m, u64 l0, u64 l1, u64 l2, u32 l3) {
     return;
 }
 
-/* bech32_near_search::gathering::push_raised::<#7a7b4d3859a9cb38> */
-static u32 f218(Machine *m, u64 l0, u64 l1, u64 l2, u64 l3, u32 l4, u64 l5) {
+/* bech32_near::search::gathering::push_raised::<#7a7b4d3859a9cb38> */
+static u32 f213(Machine *m, u64 l0, u64 l1, u64 l2, u64 l3, u32 l4, u64 l5) {
     u32 l7 = 0, l15 = 0, w0;
     u64 l6 = 0, l8 = 0, l9 = 0, l10 = 0, l11 = 0, l12 = 0, l13 = 0, l14 = 0, l16 = 0, l17 = 0, l18 = 0, l19 = 0, t0, t1, t2, t3;
     u64 t4;
@@ -67520,7 +66582,7 @@ static u32 f218(Machine *m, u64 l0, u64 l1, u64 l2, u64 l3, u32 l4, u64 l5) {
     l14 = t4;
     w0 = l14 > l13;
     t4 = w0 ? 0ull : l14;
-    f219(m, t0, t1, l12, t2, l3, l4, t3, t4);
+    f214(m, t0, t1, l12, t2, l3, l4, t3, t4);
     w0 = I32_LOAD8_U(m, l6 + 104u);
     if (w0) goto L1;
     t0 = I64_LOAD(m, l6 + 144u);
@@ -67543,7 +66605,7 @@ static u32 f218(Machine *m, u64 l0, u64 l1, u64 l2, u64 l3, u32 l4, u64 l5) {
     l13 = t1;
     w0 = t0 != l13;
     if (w0) goto L7;
-    w0 = f181(m, l5);
+    w0 = f169(m, l5);
     w0 = w0 == 0;
     if (w0) goto L3;
     t0 = l5 + 8ull;
@@ -67623,8 +66685,8 @@ static u32 f218(Machine *m, u64 l0, u64 l1, u64 l2, u64 l3, u32 l4, u64 l5) {
     return l7;
 }
 
-/* bech32_near_search::gathering::with_error::<#7a7b4d3859a9cb38> */
-static void f219(Machine *m, u64 l0, u64 l1, u64 l2, u64 l3, u64 l4, u32 l5, u64 l6, u64 l7) {
+/* bech32_near::search::gathering::with_error::<#7a7b4d3859a9cb38> */
+static void f214(Machine *m, u64 l0, u64 l1, u64 l2, u64 l3, u64 l4, u32 l5, u64 l6, u64 l7) {
     u32 l12 = 0, l13 = 0, l14 = 0, w0;
     u64 l8 = 0, l9 = 0, l10 = 0, l11 = 0, l15 = 0, t0, t1, t2;
     FRAME(m, 432u);
@@ -67672,7 +66734,7 @@ static void f219(Machine *m, u64 l0, u64 l1, u64 l2, u64 l3, u64 l4, u32 l5, u64
     w0 = t0 != t1;
     if (w0) goto L8;
     t0 = l8 + 296ull;
-    w0 = f199(m, t0);
+    w0 = f194(m, t0);
     l14 = w0;
     w0 = I32_LOAD8_U(m, l8 + 296u);
     l13 = w0;
@@ -67743,7 +66805,7 @@ static void f219(Machine *m, u64 l0, u64 l1, u64 l2, u64 l3, u64 l4, u32 l5, u64
     w0 = t0 != t1;
     if (w0) goto L4;
     t0 = l8 + 160ull;
-    w0 = f199(m, t0);
+    w0 = f194(m, t0);
     l12 = w0;
     w0 = I32_LOAD8_U(m, l8 + 160u);
     l13 = w0;
@@ -67872,7 +66934,7 @@ static void f219(Machine *m, u64 l0, u64 l1, u64 l2, u64 l3, u64 l4, u32 l5, u64
     w0 = t0 != t1;
     if (w0) goto L19;
     t0 = l8 + 160ull;
-    w0 = f199(m, t0);
+    w0 = f194(m, t0);
     l12 = w0;
     w0 = I32_LOAD8_U(m, l8 + 160u);
     l13 = w0;
@@ -67931,7 +66993,7 @@ static void f219(Machine *m, u64 l0, u64 l1, u64 l2, u64 l3, u64 l4, u32 l5, u64
     w0 = t0 != t1;
     if (w0) goto L24;
     t0 = l8 + 160ull;
-    w0 = f199(m, t0);
+    w0 = f194(m, t0);
     l14 = w0;
     w0 = I32_LOAD8_U(m, l8 + 160u);
     l13 = w0;
@@ -68033,7 +67095,7 @@ static void f219(Machine *m, u64 l0, u64 l1, u64 l2, u64 l3, u64 l4, u32 l5, u64
     I64_STORE(m, l8 + 8u, t0);
     t0 = I64_LOAD(m, l8 + 168u);
     I64_STORE(m, l8, t0);
-    f215(m, l8);
+    f207(m, l8);
     L29:;
     I32_STORE8(m, l0, 1u);
     t0 = l0 + 8ull;
@@ -68046,8 +67108,8 @@ static void f219(Machine *m, u64 l0, u64 l1, u64 l2, u64 l3, u64 l4, u32 l5, u64
     m->stack_pointer = t0;
 }
 
-/* bech32_near_search::gathering::push_highest::<#7a7b4d3859a9cb38> */
-static u32 f220(Machine *m, u64 l0, u64 l1, u64 l2, u64 l3, u64 l4) {
+/* bech32_near::search::gathering::push_highest::<#7a7b4d3859a9cb38> */
+static u32 f215(Machine *m, u64 l0, u64 l1, u64 l2, u64 l3, u64 l4) {
     u32 l7 = 0, l9 = 0, l12 = 0, l14 = 0, w0;
     u64 l5 = 0, l6 = 0, l8 = 0, l10 = 0, l11 = 0, l13 = 0, l15 = 0, t0, t1, t2, t3;
     FRAME(m, 160u);
@@ -68122,7 +67184,7 @@ static u32 f220(Machine *m, u64 l0, u64 l1, u64 l2, u64 l3, u64 l4) {
     t1 = I64_LOAD(m, t1);
     t2 = l12 ? l10 : l1;
     t3 = I64_LOAD(m, l13);
-    f219(m, t0, t1, l8, t2, t3, l14, l15, l11);
+    f214(m, t0, t1, l8, t2, t3, l14, l15, l11);
     l9 = 1u;
     w0 = I32_LOAD8_U(m, l6 + 8u);
     if (w0) goto L0;
@@ -68144,7 +67206,7 @@ static u32 f220(Machine *m, u64 l0, u64 l1, u64 l2, u64 l3, u64 l4) {
     l2 = t1;
     w0 = t0 != l2;
     if (w0) goto L7;
-    w0 = f181(m, l4);
+    w0 = f169(m, l4);
     w0 = w0 == 0;
     if (w0) goto L6;
     t0 = l4 + 8ull;
@@ -68210,7 +67272,7 @@ static u32 f220(Machine *m, u64 l0, u64 l1, u64 l2, u64 l3, u64 l4) {
 }
 
 /* std_alloc::vec::Vec::move_to::<#ee954b91a0a7d9a3> */
-static u32 f221(Machine *m, u64 l0, u64 l1) {
+static u32 f216(Machine *m, u64 l0, u64 l1) {
     u32 l3 = 0, l6 = 0, l10 = 0, w0;
     u64 l2 = 0, l4 = 0, l5 = 0, l7 = 0, l8 = 0, l9 = 0, t0, t1, t2;
     FRAME(m, 32u);
@@ -68232,7 +67294,7 @@ static u32 f221(Machine *m, u64 l0, u64 l1) {
     t1 = I64_LOAD(m, l0);
     t2 = l0 + 8ull;
     t2 = I64_LOAD(m, t2);
-    f225(m, t0, l4, t1, t2, l5, l1);
+    f220(m, t0, l4, t1, t2, l5, l1);
     t0 = I64_LOAD(m, l2 + 24u);
     l4 = t0;
     w0 = I32_LOAD8_U(m, l2 + 16u);
@@ -68266,7 +67328,7 @@ static u32 f221(Machine *m, u64 l0, u64 l1) {
     l10 = 1u;
     goto L4;
     L5:;
-    f162(m, l2, l7, l5, 8ull);
+    f158(m, l2, l7, l5, 8ull);
     t0 = I64_LOAD(m, l2 + 8u);
     l4 = t0;
     w0 = I32_LOAD8_U(m, l2);
@@ -68306,7 +67368,7 @@ static u32 f221(Machine *m, u64 l0, u64 l1) {
 }
 
 /* std_alloc::vec::Vec::grow_amortized::<#ee954b91a0a7d9a3> */
-static u32 f222(Machine *m, u64 l0) {
+static u32 f217(Machine *m, u64 l0) {
     u32 l5 = 0, w0;
     u64 l2 = 0, l3 = 0, l4 = 0, t0;
     t0 = l0 + 8ull;
@@ -68329,7 +67391,7 @@ static u32 f222(Machine *m, u64 l0) {
     t0 = w0 ? l2 : l4;
     w0 = l3 < 4611686018427387904ull;
     t0 = w0 ? t0 : l2;
-    w0 = f221(m, l0, t0);
+    w0 = f216(m, l0, t0);
     l5 = w0;
     return l5;
     TRAP(m);
@@ -68337,7 +67399,7 @@ static u32 f222(Machine *m, u64 l0) {
 }
 
 /* std_alloc::vec::deque::VecDeque::drop::<#c305e8a63a151097> */
-static void f223(Machine *m, u64 l0) {
+static void f218(Machine *m, u64 l0) {
     u32 w0;
     u64 l1 = 0, l2 = 0, l3 = 0, l4 = 0, l5 = 0, l6 = 0, l7 = 0, l8 = 0, l9 = 0, t0, t1, t2;
     t0 = I64_LOAD(m, l0 + 40u);
@@ -68490,7 +67552,7 @@ static void f223(Machine *m, u64 l0) {
 }
 
 /* std_alloc::vec::Vec::drop::<#7737994ff69d2e5e> */
-static void f224(Machine *m, u64 l0) {
+static void f219(Machine *m, u64 l0) {
     u32 w0;
     u64 l1 = 0, l2 = 0, l3 = 0, l4 = 0, l5 = 0, l6 = 0, l7 = 0, l8 = 0, l9 = 0, l10 = 0, l11 = 0, t0, t1, t2;
     t0 = I64_LOAD(m, l0 + 24u);
@@ -68618,7 +67680,7 @@ static void f224(Machine *m, u64 l0) {
 }
 
 /* core::alloc::RefAllocator::grow::<#e21ef93ed84b420d> */
-static void f225(Machine *m, u64 l0, u64 l1, u64 l2, u64 l3, u64 l4, u64 l5) {
+static void f220(Machine *m, u64 l0, u64 l1, u64 l2, u64 l3, u64 l4, u64 l5) {
     u32 l14 = 0, l15 = 0, w0;
     u64 l6 = 0, l7 = 0, l8 = 0, l9 = 0, l10 = 0, l11 = 0, l12 = 0, l13 = 0, t0, t1;
     FRAME(m, 176u);
@@ -68751,7 +67813,7 @@ static void f225(Machine *m, u64 l0, u64 l1, u64 l2, u64 l3, u64 l4, u64 l5) {
     l14 = 1u;
     goto L3;
     L4:;
-    f162(m, l6, l7, l5, 8ull);
+    f158(m, l6, l7, l5, 8ull);
     t0 = I64_LOAD(m, l6 + 8u);
     l1 = t0;
     w0 = I32_LOAD8_U(m, l6);
@@ -68869,7 +67931,7 @@ static void f225(Machine *m, u64 l0, u64 l1, u64 l2, u64 l3, u64 l4, u64 l5) {
 }
 
 /* bech32_finders::correction::correct_by_roots::<#fd0d13fdebc37c5c> */
-static void f226(Machine *m, u64 l0, u64 l1, u64 l2, u64 l3, u64 l4, u64 l5) {
+static void f221(Machine *m, u64 l0, u64 l1, u64 l2, u64 l3, u64 l4, u64 l5) {
     u32 l7 = 0, w0;
     u64 l6 = 0, l8 = 0, t0, t1, t2;
     FRAME(m, 448u);
@@ -68888,7 +67950,7 @@ static void f226(Machine *m, u64 l0, u64 l1, u64 l2, u64 l3, u64 l4, u64 l5) {
     I64_STORE(m, l6 + 136u, 1537ull);
     t0 = l6 + 160ull;
     t1 = l6 + 136ull;
-    f207(m, t0, l1, t1, l2, l3, l4, l5);
+    f202(m, t0, l1, t1, l2, l3, l4, l5);
     w0 = I32_LOAD8_U(m, l6 + 160u);
     if (w0) goto L5;
     w0 = I32_LOAD8_U(m, l6 + 168u);
@@ -68987,8 +68049,8 @@ static void f226(Machine *m, u64 l0, u64 l1, u64 l2, u64 l3, u64 l4, u64 l5) {
     m->stack_pointer = t0;
 }
 
-/* bech32_near_search::gathering::gather_with::<#fd0d13fdebc37c5c> */
-static u32 f227(Machine *m, u64 l0, u64 l1, u32 l2, u64 l3, u64 l4) {
+/* bech32_near::search::gathering::gather_with::<#fd0d13fdebc37c5c> */
+static u32 f222(Machine *m, u64 l0, u64 l1, u32 l2, u64 l3, u64 l4) {
     u32 l6 = 0, w0, w1;
     u64 l5 = 0, l7 = 0, t0, t1, t2;
     FRAME(m, 368u);
@@ -68997,7 +68059,7 @@ static u32 f227(Machine *m, u64 l0, u64 l1, u32 l2, u64 l3, u64 l4) {
     l5 = t0;
     m->stack_pointer = l5;
     MEMORY_FILL(m, l5, 0u, 168ull);
-    f183(m, l5, l0, l1, l2);
+    f178(m, l5, l0, l1, l2);
     l6 = 1u;
     w0 = I32_LOAD8_U(m, l5);
     if (w0) goto L1;
@@ -69015,10 +68077,10 @@ static u32 f227(Machine *m, u64 l0, u64 l1, u32 l2, u64 l3, u64 l4) {
     I64_STORE(m, l5 + 168u, t0);
     t0 = l5 + 200ull;
     t1 = l5 + 168ull;
-    w0 = f176(m, t0, l3, l1, t1);
+    w0 = f172(m, t0, l3, l1, t1);
     w0 = w0 & 255u;
     t0 = l5 + 168ull;
-    w0 = f184(m, l0, w0, t0, l1, l2, l4);
+    w0 = f179(m, l0, w0, t0, l1, l2, l4);
     l2 = w0;
     w0 = I32_LOAD8_U(m, l5 + 200u);
     w0 = w0 != 1u;
@@ -69165,8 +68227,8 @@ static u32 f227(Machine *m, u64 l0, u64 l1, u32 l2, u64 l3, u64 l4) {
     return 0;
 }
 
-/* bech32_finders::division::residue_without::<#727822b78d613c49> */
-static void f228(Machine *m, u64 l0, u64 l1, u64 l2, u32 l3) {
+/* bech32_finders::division::residue_after_removing::<#727822b78d613c49> */
+static void f223(Machine *m, u64 l0, u64 l1, u64 l2, u32 l3) {
     u32 l4 = 0, l5 = 0, l8 = 0, l9 = 0, l10 = 0, l11 = 0, l12 = 0, w0, w1, w2;
     u64 l6 = 0, l7 = 0, t0;
     w0 = l3 & 255u;
@@ -69275,7 +68337,7 @@ static void f228(Machine *m, u64 l0, u64 l1, u64 l2, u32 l3) {
 }
 
 /* std_alloc::vec::Vec::grow_amortized::<#c8156ea53c0dac23> */
-static u32 f229(Machine *m, u64 l0) {
+static u32 f224(Machine *m, u64 l0) {
     u32 l2 = 0, l8 = 0, l10 = 0, w0;
     u64 l1 = 0, l3 = 0, l4 = 0, l5 = 0, l6 = 0, l7 = 0, l9 = 0, t0, t1;
     FRAME(m, 32u);
@@ -69312,7 +68374,7 @@ static u32 f229(Machine *m, u64 l0) {
     if (w0) goto L3;
     t0 = l1 + 16ull;
     t1 = I64_LOAD(m, l0);
-    f194(m, t0, l7, t1, l3, l5, l4);
+    f189(m, t0, l7, t1, l3, l5, l4);
     t0 = I64_LOAD(m, l1 + 24u);
     l3 = t0;
     w0 = I32_LOAD8_U(m, l1 + 16u);
@@ -69346,7 +68408,7 @@ static u32 f229(Machine *m, u64 l0) {
     l10 = 1u;
     goto L4;
     L5:;
-    f162(m, l1, l5, l3, 8ull);
+    f158(m, l1, l5, l3, 8ull);
     t0 = I64_LOAD(m, l1 + 8u);
     l3 = t0;
     w0 = I32_LOAD8_U(m, l1);
@@ -69386,7 +68448,7 @@ static u32 f229(Machine *m, u64 l0) {
 }
 
 /* bech32_suggest::tried::push_near::<#7a7b4d3859a9cb38> */
-static u32 f230(Machine *m, u64 l0, u64 l1, u32 l2, u64 l3, u64 l4) {
+static u32 f225(Machine *m, u64 l0, u64 l1, u32 l2, u64 l3, u64 l4) {
     u32 w0;
     u64 l5 = 0, l6 = 0, l7 = 0, l8 = 0, l9 = 0, l10 = 0, l11 = 0, l12 = 0, l13 = 0, t0, t1, t2;
     FRAME(m, 48u);
@@ -69401,7 +68463,7 @@ static u32 f230(Machine *m, u64 l0, u64 l1, u32 l2, u64 l3, u64 l4) {
     I64_STORE(m, l6 + 16u, 0ull);
     I64_STORE(m, l6 + 8u, 0ull);
     t0 = l6 + 8ull;
-    f231(m, t0, l0, l1, l2, l3);
+    f226(m, t0, l0, l1, l2, l3);
     l2 = 1u;
     w0 = I32_LOAD8_U(m, l6 + 8u);
     if (w0) goto L1;
@@ -69428,7 +68490,7 @@ static u32 f230(Machine *m, u64 l0, u64 l1, u32 l2, u64 l3, u64 l4) {
     t0 = l0 + 18446744073709551608ull;
     t0 = I64_LOAD(m, t0);
     t1 = I64_LOAD(m, l0);
-    w0 = f232(m, l10, l3, t0, t1, l4);
+    w0 = f227(m, l10, l3, t0, t1, l4);
     w0 = w0 & 255u;
     if (w0) goto L5;
     t0 = l0 + 168ull;
@@ -69565,7 +68627,7 @@ static u32 f230(Machine *m, u64 l0, u64 l1, u32 l2, u64 l3, u64 l4) {
 }
 
 /* bech32_suggest::tried::near_by::<#341f03bb6cca3d6e> */
-static void f231(Machine *m, u64 l0, u64 l1, u64 l2, u32 l3, u64 l4) {
+static void f226(Machine *m, u64 l0, u64 l1, u64 l2, u32 l3, u64 l4) {
     u32 l8 = 0, l10 = 0, l13 = 0, l14 = 0, l15 = 0, l16 = 0, l17 = 0, l18 = 0, l21 = 0, l22 = 0, l23 = 0, l24 = 0, l25 = 0, l26 = 0, w0, w1;
     u32 w2, w3;
     u64 l5 = 0, l6 = 0, l7 = 0, l9 = 0, l11 = 0, l12 = 0, l19 = 0, l20 = 0, l27 = 0, l28 = 0, l29 = 0, l30 = 0, l31 = 0, l32 = 0, l33 = 0, l34 = 0;
@@ -69639,7 +68701,7 @@ static void f231(Machine *m, u64 l0, u64 l1, u64 l2, u32 l3, u64 l4) {
     I64_STORE(m, l5 + 728u, 0ull);
     I64_STORE(m, l5 + 720u, 0ull);
     t0 = l5 + 816ull;
-    f233(m, t0, l1, l4, l7, l9);
+    f228(m, t0, l1, l4, l7, l9);
     w0 = I32_LOAD8_U(m, l5 + 816u);
     if (w0) goto L10;
     l10 = 1u;
@@ -69667,7 +68729,7 @@ static void f231(Machine *m, u64 l0, u64 l1, u64 l2, u32 l3, u64 l4) {
     t3 = l3 ? 16ull : 64ull;
     t2 = t2 + t3;
     t2 = I64_LOAD(m, t2);
-    f234(m, t0, l1, 1537u, t1, t2);
+    f229(m, t0, l1, 1537u, t1, t2);
     w0 = I32_LOAD8_U(m, l5 + 720u);
     if (w0) goto L13;
     w0 = l8 ^ 734539939u;
@@ -69795,7 +68857,7 @@ static void f231(Machine *m, u64 l0, u64 l1, u64 l2, u32 l3, u64 l4) {
     I64_STORE(m, l5 + 728u, 0ull);
     I64_STORE(m, l5 + 720u, 0ull);
     t0 = l5 + 816ull;
-    f233(m, t0, l1, l4, l7, l9);
+    f228(m, t0, l1, l4, l7, l9);
     w0 = I32_LOAD8_U(m, l5 + 816u);
     if (w0) goto L8;
     w0 = I32_LOAD8_U(m, l5 + 824u);
@@ -69822,7 +68884,7 @@ static void f231(Machine *m, u64 l0, u64 l1, u64 l2, u32 l3, u64 l4) {
     t3 = l3 ? 16ull : 64ull;
     t2 = t2 + t3;
     t2 = I64_LOAD(m, t2);
-    f234(m, t0, l1, 1537u, t1, t2);
+    f229(m, t0, l1, 1537u, t1, t2);
     w0 = I32_LOAD8_U(m, l5 + 720u);
     if (w0) goto L16;
     w0 = l10 >> 25;
@@ -70106,7 +69168,7 @@ static void f231(Machine *m, u64 l0, u64 l1, u64 l2, u32 l3, u64 l4) {
     MEMORY_FILL(m, t0, 0u, 152ull);
     t0 = l5 + 816ull;
     t1 = l5 + 560ull;
-    f235(m, t0, t1);
+    f230(m, t0, t1);
     w0 = I32_LOAD8_U(m, l5 + 816u);
     if (w0) goto L35;
     w0 = I32_LOAD8_U(m, l5 + 824u);
@@ -70199,7 +69261,7 @@ static void f231(Machine *m, u64 l0, u64 l1, u64 l2, u32 l3, u64 l4) {
     t0 = l5 + 1176ull;
     I64_STORE(m, l5 + 720u, t0);
     t0 = l5 + 720ull;
-    w0 = f236(m, t0);
+    w0 = f231(m, t0);
     if (w0) goto L24;
     w0 = l10 & 255u;
     w0 = w0 == 0;
@@ -70407,7 +69469,7 @@ static void f231(Machine *m, u64 l0, u64 l1, u64 l2, u32 l3, u64 l4) {
     goto L59;
     L60:;
     t0 = l5 + 88ull;
-    f162(m, t0, l7, l4, 8ull);
+    f158(m, t0, l7, l4, 8ull);
     t0 = I64_LOAD(m, l5 + 96u);
     l35 = t0;
     w0 = I32_LOAD8_U(m, l5 + 88u);
@@ -70508,7 +69570,7 @@ static void f231(Machine *m, u64 l0, u64 l1, u64 l2, u32 l3, u64 l4) {
     w0 = t0 != l30;
     if (w0) goto L70;
     t0 = l5 + 816ull;
-    w0 = f237(m, t0);
+    w0 = f232(m, t0);
     w0 = w0 == 0;
     if (w0) goto L56;
     t0 = I64_LOAD(m, l5 + 816u);
@@ -70645,7 +69707,7 @@ static void f231(Machine *m, u64 l0, u64 l1, u64 l2, u32 l3, u64 l4) {
     w0 = t0 != l2;
     if (w0) goto L80;
     t0 = l5 + 816ull;
-    w0 = f237(m, t0);
+    w0 = f232(m, t0);
     w0 = w0 == 0;
     if (w0) goto L56;
     t0 = I64_LOAD(m, l5 + 816u);
@@ -70774,7 +69836,7 @@ static void f231(Machine *m, u64 l0, u64 l1, u64 l2, u32 l3, u64 l4) {
     goto L27;
     L54:;
     t0 = l5 + 72ull;
-    f162(m, t0, l9, l4, 8ull);
+    f158(m, t0, l9, l4, 8ull);
     t0 = I64_LOAD(m, l5 + 80u);
     l33 = t0;
     w0 = I32_LOAD8_U(m, l5 + 72u);
@@ -70811,7 +69873,7 @@ static void f231(Machine *m, u64 l0, u64 l1, u64 l2, u32 l3, u64 l4) {
     w0 = t0 != l11;
     if (w0) goto L87;
     t0 = l5 + 816ull;
-    w0 = f238(m, t0);
+    w0 = f233(m, t0);
     w0 = w0 == 0;
     if (w0) goto L82;
     t0 = I64_LOAD(m, l5 + 816u);
@@ -70847,7 +69909,7 @@ static void f231(Machine *m, u64 l0, u64 l1, u64 l2, u32 l3, u64 l4) {
     w0 = t0 != l11;
     if (w0) goto L89;
     t0 = l5 + 816ull;
-    w0 = f238(m, t0);
+    w0 = f233(m, t0);
     w0 = w0 == 0;
     if (w0) goto L82;
     t0 = I64_LOAD(m, l5 + 824u);
@@ -70883,7 +69945,7 @@ static void f231(Machine *m, u64 l0, u64 l1, u64 l2, u32 l3, u64 l4) {
     w0 = t0 != l11;
     if (w0) goto L91;
     t0 = l5 + 816ull;
-    w0 = f238(m, t0);
+    w0 = f233(m, t0);
     w0 = w0 == 0;
     if (w0) goto L82;
     t0 = I64_LOAD(m, l5 + 816u);
@@ -70919,7 +69981,7 @@ static void f231(Machine *m, u64 l0, u64 l1, u64 l2, u32 l3, u64 l4) {
     w0 = t0 != l11;
     if (w0) goto L93;
     t0 = l5 + 816ull;
-    w0 = f238(m, t0);
+    w0 = f233(m, t0);
     w0 = w0 == 0;
     if (w0) goto L82;
     t0 = I64_LOAD(m, l5 + 824u);
@@ -70954,7 +70016,7 @@ static void f231(Machine *m, u64 l0, u64 l1, u64 l2, u32 l3, u64 l4) {
     w0 = t0 != l11;
     if (w0) goto L95;
     t0 = l5 + 816ull;
-    w0 = f238(m, t0);
+    w0 = f233(m, t0);
     w0 = w0 == 0;
     if (w0) goto L82;
     t0 = I64_LOAD(m, l5 + 816u);
@@ -71052,7 +70114,7 @@ static void f231(Machine *m, u64 l0, u64 l1, u64 l2, u32 l3, u64 l4) {
     w0 = t0 != l11;
     if (w0) goto L101;
     t0 = l5 + 816ull;
-    w0 = f238(m, t0);
+    w0 = f233(m, t0);
     w0 = w0 == 0;
     if (w0) goto L82;
     t0 = I64_LOAD(m, l5 + 816u);
@@ -71141,7 +70203,7 @@ static void f231(Machine *m, u64 l0, u64 l1, u64 l2, u32 l3, u64 l4) {
     w0 = t0 != l11;
     if (w0) goto L107;
     t0 = l5 + 816ull;
-    w0 = f238(m, t0);
+    w0 = f233(m, t0);
     w0 = w0 == 0;
     if (w0) goto L82;
     t0 = I64_LOAD(m, l5 + 824u);
@@ -71230,7 +70292,7 @@ static void f231(Machine *m, u64 l0, u64 l1, u64 l2, u32 l3, u64 l4) {
     w0 = t0 != l11;
     if (w0) goto L113;
     t0 = l5 + 816ull;
-    w0 = f238(m, t0);
+    w0 = f233(m, t0);
     w0 = w0 == 0;
     if (w0) goto L82;
     t0 = I64_LOAD(m, l5 + 816u);
@@ -71319,7 +70381,7 @@ static void f231(Machine *m, u64 l0, u64 l1, u64 l2, u32 l3, u64 l4) {
     w0 = t0 != l11;
     if (w0) goto L119;
     t0 = l5 + 816ull;
-    w0 = f238(m, t0);
+    w0 = f233(m, t0);
     w0 = w0 == 0;
     if (w0) goto L82;
     t0 = I64_LOAD(m, l5 + 824u);
@@ -71408,7 +70470,7 @@ static void f231(Machine *m, u64 l0, u64 l1, u64 l2, u32 l3, u64 l4) {
     w0 = t0 != l11;
     if (w0) goto L125;
     t0 = l5 + 816ull;
-    w0 = f238(m, t0);
+    w0 = f233(m, t0);
     w0 = w0 == 0;
     if (w0) goto L82;
     t0 = I64_LOAD(m, l5 + 816u);
@@ -71449,7 +70511,7 @@ static void f231(Machine *m, u64 l0, u64 l1, u64 l2, u32 l3, u64 l4) {
     t2 = w0 ? 32ull : 72ull;
     t1 = t1 + t2;
     t1 = I64_LOAD(m, t1);
-    f239(m, t0, t1, l33, l11);
+    f234(m, t0, t1, l33, l11);
     w0 = I32_LOAD8_U(m, l5 + 720u);
     if (w0) goto L50;
     t0 = I64_LOAD(m, l5 + 752u);
@@ -71464,7 +70526,7 @@ static void f231(Machine *m, u64 l0, u64 l1, u64 l2, u32 l3, u64 l4) {
     if (w0) goto L49;
     t0 = l5 + 560ull;
     t1 = l5 + 784ull;
-    w0 = f240(m, t0, l31, l30, l35, l39, l27, t1);
+    w0 = f235(m, t0, l31, l30, l35, l39, l27, t1);
     l3 = w0;
     w0 = l41 == 0;
     if (w0) goto L126;
@@ -71603,7 +70665,7 @@ static void f231(Machine *m, u64 l0, u64 l1, u64 l2, u32 l3, u64 l4) {
     w0 = t0 != 0ull;
     if (w0) goto L131;
     t0 = l5 + 680ull;
-    w0 = f144(m, t0);
+    w0 = f145(m, t0);
     w0 = w0 == 0;
     if (w0) goto L30;
     t0 = l5 + 560ull;
@@ -71617,7 +70679,7 @@ static void f231(Machine *m, u64 l0, u64 l1, u64 l2, u32 l3, u64 l4) {
     w0 = t0 != l4;
     if (w0) goto L132;
     t0 = l5 + 784ull;
-    w0 = f241(m, t0);
+    w0 = f231(m, t0);
     if (w0) goto L133;
     l10 = 1u;
     goto L29;
@@ -71638,7 +70700,7 @@ static void f231(Machine *m, u64 l0, u64 l1, u64 l2, u32 l3, u64 l4) {
     L131:;
     t0 = l5 + 560ull;
     t1 = l5 + 784ull;
-    w0 = f242(m, t0, 0ull, 0ull, t1);
+    w0 = f236(m, t0, 0ull, 0ull, t1);
     w0 = w0 & 255u;
     w0 = w0 == 0;
     if (w0) goto L30;
@@ -71647,7 +70709,7 @@ static void f231(Machine *m, u64 l0, u64 l1, u64 l2, u32 l3, u64 l4) {
     L47:;
     t0 = l5 + 560ull;
     t1 = l5 + 784ull;
-    w0 = f243(m, t0, l6, l27, t1);
+    w0 = f237(m, t0, l6, l27, t1);
     l3 = w0;
     t0 = I64_LOAD(m, l5 + 784u);
     l9 = t0;
@@ -72050,7 +71112,7 @@ static void f231(Machine *m, u64 l0, u64 l1, u64 l2, u32 l3, u64 l4) {
     goto L161;
     L162:;
     t0 = l5 + 56ull;
-    f162(m, t0, l4, 544ull, 8ull);
+    f158(m, t0, l4, 544ull, 8ull);
     t0 = I64_LOAD(m, l5 + 64u);
     l7 = t0;
     w0 = I32_LOAD8_U(m, l5 + 56u);
@@ -72074,7 +71136,7 @@ static void f231(Machine *m, u64 l0, u64 l1, u64 l2, u32 l3, u64 l4) {
     I64_STORE(m, l5 + 1144u, l7);
     t0 = l5 + 816ull;
     t1 = l5 + 560ull;
-    f244(m, t0, t1, l12, l3);
+    f238(m, t0, t1, l12, l3);
     w0 = I32_LOAD8_U(m, l5 + 816u);
     if (w0) goto L146;
     t0 = l5 + 984ull;
@@ -72082,11 +71144,11 @@ static void f231(Machine *m, u64 l0, u64 l1, u64 l2, u32 l3, u64 l4) {
     t0 = l5 + 560ull;
     t1 = l5 + 984ull;
     t2 = l5 + 1144ull;
-    w0 = f240(m, t1, l31, l30, l35, l39, l12, t2);
+    w0 = f235(m, t1, l31, l30, l35, l39, l12, t2);
     w0 = w0 & 255u;
     t1 = l5 + 1144ull;
     t2 = l5 + 784ull;
-    w0 = f245(m, t0, w0, t1, l12, l3, t2);
+    w0 = f239(m, t0, w0, t1, l12, l3, t2);
     l8 = w0;
     w0 = I32_LOAD8_U(m, l5 + 984u);
     w0 = w0 != 1u;
@@ -72592,7 +71654,7 @@ static void f231(Machine *m, u64 l0, u64 l1, u64 l2, u32 l3, u64 l4) {
     I64_STORE(m, l5 + 208u, l2);
     t0 = l5 + 216ull;
     t1 = l5 + 184ull;
-    f246(m, t0, l1, l20, l19, t1);
+    f240(m, t0, l1, l20, l19, t1);
     w0 = I32_LOAD8_U(m, l5 + 216u);
     if (w0) goto L20;
     t0 = I64_LOAD(m, l5 + 248u);
@@ -72781,7 +71843,7 @@ static void f231(Machine *m, u64 l0, u64 l1, u64 l2, u32 l3, u64 l4) {
     MEMORY_FILL(m, t0, 0u, 152ull);
     t0 = l5 + 816ull;
     t1 = l5 + 560ull;
-    f247(m, t0, t1);
+    f241(m, t0, t1);
     w0 = I32_LOAD8_U(m, l5 + 816u);
     if (w0) goto L200;
     w0 = I32_LOAD8_U(m, l5 + 824u);
@@ -72874,7 +71936,7 @@ static void f231(Machine *m, u64 l0, u64 l1, u64 l2, u32 l3, u64 l4) {
     t0 = l5 + 1176ull;
     I64_STORE(m, l5 + 720u, t0);
     t0 = l5 + 720ull;
-    w0 = f236(m, t0);
+    w0 = f231(m, t0);
     if (w0) goto L189;
     w0 = l10 & 255u;
     w0 = w0 == 0;
@@ -73082,7 +72144,7 @@ static void f231(Machine *m, u64 l0, u64 l1, u64 l2, u32 l3, u64 l4) {
     goto L224;
     L225:;
     t0 = l5 + 40ull;
-    f162(m, t0, l7, l4, 8ull);
+    f158(m, t0, l7, l4, 8ull);
     t0 = I64_LOAD(m, l5 + 48u);
     l27 = t0;
     w0 = I32_LOAD8_U(m, l5 + 40u);
@@ -73183,7 +72245,7 @@ static void f231(Machine *m, u64 l0, u64 l1, u64 l2, u32 l3, u64 l4) {
     w0 = t0 != l31;
     if (w0) goto L235;
     t0 = l5 + 816ull;
-    w0 = f237(m, t0);
+    w0 = f232(m, t0);
     w0 = w0 == 0;
     if (w0) goto L221;
     t0 = I64_LOAD(m, l5 + 816u);
@@ -73320,7 +72382,7 @@ static void f231(Machine *m, u64 l0, u64 l1, u64 l2, u32 l3, u64 l4) {
     w0 = t0 != l12;
     if (w0) goto L245;
     t0 = l5 + 816ull;
-    w0 = f237(m, t0);
+    w0 = f232(m, t0);
     w0 = w0 == 0;
     if (w0) goto L221;
     t0 = I64_LOAD(m, l5 + 816u);
@@ -73449,7 +72511,7 @@ static void f231(Machine *m, u64 l0, u64 l1, u64 l2, u32 l3, u64 l4) {
     goto L192;
     L219:;
     t0 = l5 + 24ull;
-    f162(m, t0, l9, l4, 8ull);
+    f158(m, t0, l9, l4, 8ull);
     t0 = I64_LOAD(m, l5 + 32u);
     l32 = t0;
     w0 = I32_LOAD8_U(m, l5 + 24u);
@@ -73486,7 +72548,7 @@ static void f231(Machine *m, u64 l0, u64 l1, u64 l2, u32 l3, u64 l4) {
     w0 = t0 != l11;
     if (w0) goto L252;
     t0 = l5 + 816ull;
-    w0 = f238(m, t0);
+    w0 = f233(m, t0);
     w0 = w0 == 0;
     if (w0) goto L247;
     t0 = I64_LOAD(m, l5 + 816u);
@@ -73522,7 +72584,7 @@ static void f231(Machine *m, u64 l0, u64 l1, u64 l2, u32 l3, u64 l4) {
     w0 = t0 != l11;
     if (w0) goto L254;
     t0 = l5 + 816ull;
-    w0 = f238(m, t0);
+    w0 = f233(m, t0);
     w0 = w0 == 0;
     if (w0) goto L247;
     t0 = I64_LOAD(m, l5 + 824u);
@@ -73558,7 +72620,7 @@ static void f231(Machine *m, u64 l0, u64 l1, u64 l2, u32 l3, u64 l4) {
     w0 = t0 != l11;
     if (w0) goto L256;
     t0 = l5 + 816ull;
-    w0 = f238(m, t0);
+    w0 = f233(m, t0);
     w0 = w0 == 0;
     if (w0) goto L247;
     t0 = I64_LOAD(m, l5 + 816u);
@@ -73594,7 +72656,7 @@ static void f231(Machine *m, u64 l0, u64 l1, u64 l2, u32 l3, u64 l4) {
     w0 = t0 != l11;
     if (w0) goto L258;
     t0 = l5 + 816ull;
-    w0 = f238(m, t0);
+    w0 = f233(m, t0);
     w0 = w0 == 0;
     if (w0) goto L247;
     t0 = I64_LOAD(m, l5 + 824u);
@@ -73629,7 +72691,7 @@ static void f231(Machine *m, u64 l0, u64 l1, u64 l2, u32 l3, u64 l4) {
     w0 = t0 != l11;
     if (w0) goto L260;
     t0 = l5 + 816ull;
-    w0 = f238(m, t0);
+    w0 = f233(m, t0);
     w0 = w0 == 0;
     if (w0) goto L247;
     t0 = I64_LOAD(m, l5 + 816u);
@@ -73727,7 +72789,7 @@ static void f231(Machine *m, u64 l0, u64 l1, u64 l2, u32 l3, u64 l4) {
     w0 = t0 != l11;
     if (w0) goto L266;
     t0 = l5 + 816ull;
-    w0 = f238(m, t0);
+    w0 = f233(m, t0);
     w0 = w0 == 0;
     if (w0) goto L247;
     t0 = I64_LOAD(m, l5 + 816u);
@@ -73816,7 +72878,7 @@ static void f231(Machine *m, u64 l0, u64 l1, u64 l2, u32 l3, u64 l4) {
     w0 = t0 != l11;
     if (w0) goto L272;
     t0 = l5 + 816ull;
-    w0 = f238(m, t0);
+    w0 = f233(m, t0);
     w0 = w0 == 0;
     if (w0) goto L247;
     t0 = I64_LOAD(m, l5 + 824u);
@@ -73905,7 +72967,7 @@ static void f231(Machine *m, u64 l0, u64 l1, u64 l2, u32 l3, u64 l4) {
     w0 = t0 != l11;
     if (w0) goto L278;
     t0 = l5 + 816ull;
-    w0 = f238(m, t0);
+    w0 = f233(m, t0);
     w0 = w0 == 0;
     if (w0) goto L247;
     t0 = I64_LOAD(m, l5 + 816u);
@@ -73994,7 +73056,7 @@ static void f231(Machine *m, u64 l0, u64 l1, u64 l2, u32 l3, u64 l4) {
     w0 = t0 != l11;
     if (w0) goto L284;
     t0 = l5 + 816ull;
-    w0 = f238(m, t0);
+    w0 = f233(m, t0);
     w0 = w0 == 0;
     if (w0) goto L247;
     t0 = I64_LOAD(m, l5 + 824u);
@@ -74083,7 +73145,7 @@ static void f231(Machine *m, u64 l0, u64 l1, u64 l2, u32 l3, u64 l4) {
     w0 = t0 != l11;
     if (w0) goto L290;
     t0 = l5 + 816ull;
-    w0 = f238(m, t0);
+    w0 = f233(m, t0);
     w0 = w0 == 0;
     if (w0) goto L247;
     t0 = I64_LOAD(m, l5 + 816u);
@@ -74124,7 +73186,7 @@ static void f231(Machine *m, u64 l0, u64 l1, u64 l2, u32 l3, u64 l4) {
     t2 = w0 ? 32ull : 72ull;
     t1 = t1 + t2;
     t1 = I64_LOAD(m, t1);
-    f239(m, t0, t1, l32, l11);
+    f234(m, t0, t1, l32, l11);
     w0 = I32_LOAD8_U(m, l5 + 720u);
     if (w0) goto L215;
     t0 = I64_LOAD(m, l5 + 752u);
@@ -74139,7 +73201,7 @@ static void f231(Machine *m, u64 l0, u64 l1, u64 l2, u32 l3, u64 l4) {
     if (w0) goto L214;
     t0 = l5 + 560ull;
     t1 = l5 + 784ull;
-    w0 = f248(m, t0, l35, l31, l27, l38, l19, t1);
+    w0 = f242(m, t0, l35, l31, l27, l38, l19, t1);
     l3 = w0;
     w0 = l50 == 0;
     if (w0) goto L291;
@@ -74278,7 +73340,7 @@ static void f231(Machine *m, u64 l0, u64 l1, u64 l2, u32 l3, u64 l4) {
     w0 = t0 != 0ull;
     if (w0) goto L296;
     t0 = l5 + 680ull;
-    w0 = f144(m, t0);
+    w0 = f145(m, t0);
     w0 = w0 == 0;
     if (w0) goto L195;
     t0 = l5 + 560ull;
@@ -74292,7 +73354,7 @@ static void f231(Machine *m, u64 l0, u64 l1, u64 l2, u32 l3, u64 l4) {
     w0 = t0 != l4;
     if (w0) goto L297;
     t0 = l5 + 784ull;
-    w0 = f241(m, t0);
+    w0 = f231(m, t0);
     if (w0) goto L298;
     l10 = 1u;
     goto L194;
@@ -74313,7 +73375,7 @@ static void f231(Machine *m, u64 l0, u64 l1, u64 l2, u32 l3, u64 l4) {
     L296:;
     t0 = l5 + 560ull;
     t1 = l5 + 784ull;
-    w0 = f249(m, t0, 0ull, 0ull, t1);
+    w0 = f243(m, t0, 0ull, 0ull, t1);
     w0 = w0 & 255u;
     w0 = w0 == 0;
     if (w0) goto L195;
@@ -74322,7 +73384,7 @@ static void f231(Machine *m, u64 l0, u64 l1, u64 l2, u32 l3, u64 l4) {
     L212:;
     t0 = l5 + 560ull;
     t1 = l5 + 784ull;
-    w0 = f250(m, t0, l6, l19, t1);
+    w0 = f244(m, t0, l6, l19, t1);
     l3 = w0;
     t0 = I64_LOAD(m, l5 + 784u);
     l9 = t0;
@@ -74725,7 +73787,7 @@ static void f231(Machine *m, u64 l0, u64 l1, u64 l2, u32 l3, u64 l4) {
     goto L326;
     L327:;
     t0 = l5 + 8ull;
-    f162(m, t0, l4, 544ull, 8ull);
+    f158(m, t0, l4, 544ull, 8ull);
     t0 = I64_LOAD(m, l5 + 16u);
     l7 = t0;
     w0 = I32_LOAD8_U(m, l5 + 8u);
@@ -74749,7 +73811,7 @@ static void f231(Machine *m, u64 l0, u64 l1, u64 l2, u32 l3, u64 l4) {
     I64_STORE(m, l5 + 1144u, l7);
     t0 = l5 + 816ull;
     t1 = l5 + 560ull;
-    f251(m, t0, t1, l30, l3);
+    f245(m, t0, t1, l30, l3);
     w0 = I32_LOAD8_U(m, l5 + 816u);
     if (w0) goto L311;
     t0 = l5 + 984ull;
@@ -74757,11 +73819,11 @@ static void f231(Machine *m, u64 l0, u64 l1, u64 l2, u32 l3, u64 l4) {
     t0 = l5 + 560ull;
     t1 = l5 + 984ull;
     t2 = l5 + 1144ull;
-    w0 = f248(m, t1, l35, l31, l27, l38, l30, t2);
+    w0 = f242(m, t1, l35, l31, l27, l38, l30, t2);
     w0 = w0 & 255u;
     t1 = l5 + 1144ull;
     t2 = l5 + 784ull;
-    w0 = f252(m, t0, w0, t1, l30, l3, t2);
+    w0 = f246(m, t0, w0, t1, l30, l3, t2);
     l8 = w0;
     w0 = I32_LOAD8_U(m, l5 + 984u);
     w0 = w0 != 1u;
@@ -75269,7 +74331,7 @@ static void f231(Machine *m, u64 l0, u64 l1, u64 l2, u32 l3, u64 l4) {
     t1 = I64_LOAD(m, l2);
     t2 = I64_LOAD(m, l2 + 8u);
     t3 = l5 + 184ull;
-    f246(m, t0, l1, t1, t2, t3);
+    f240(m, t0, l1, t1, t2, t3);
     w0 = I32_LOAD8_U(m, l5 + 216u);
     if (w0) goto L185;
     t0 = I64_LOAD(m, l5 + 248u);
@@ -75310,7 +74372,7 @@ static void f231(Machine *m, u64 l0, u64 l1, u64 l2, u32 l3, u64 l4) {
 }
 
 /* bech32_suggest::kept::push_one::<#7a7b4d3859a9cb38> */
-static u32 f232(Machine *m, u64 l0, u64 l1, u64 l2, u64 l3, u64 l4) {
+static u32 f227(Machine *m, u64 l0, u64 l1, u64 l2, u64 l3, u64 l4) {
     u32 l8 = 0, l10 = 0, l13 = 0, w0, w1, w2;
     u64 l5 = 0, l6 = 0, l7 = 0, l9 = 0, l11 = 0, l12 = 0, l14 = 0, t0, t1, t2;
     FRAME(m, 256u);
@@ -75333,7 +74395,7 @@ static u32 f232(Machine *m, u64 l0, u64 l1, u64 l2, u64 l3, u64 l4) {
     t1 = l5 + 8ull;
     t1 = I64_LOAD(m, t1);
     t2 = l6 + 120ull;
-    w0 = f281(m, t0, t1, t2);
+    w0 = f275(m, t0, t1, t2);
     if (w0) goto L3;
     t0 = l5 + 48ull;
     l5 = t0;
@@ -75355,7 +74417,7 @@ static u32 f232(Machine *m, u64 l0, u64 l1, u64 l2, u64 l3, u64 l4) {
     t0 = l6 + 120ull;
     MEMORY_FILL(m, t0, 0u, 128ull);
     t0 = l6 + 120ull;
-    f282(m, t0, l2, l3);
+    f276(m, t0, l2, l3);
     w0 = I32_LOAD8_U(m, l6 + 120u);
     if (w0) goto L0;
     t0 = l6 + 24ull;
@@ -75400,13 +74462,13 @@ static u32 f232(Machine *m, u64 l0, u64 l1, u64 l2, u64 l3, u64 l4) {
     w0 = w0 == 0;
     if (w0) goto L6;
     L5:;
-    w0 = f281(m, l2, l3, l1);
+    w0 = f275(m, l2, l3, l1);
     if (w0) goto L7;
     l8 = 0u;
     t0 = l6 + 120ull;
     MEMORY_FILL(m, t0, 0u, 128ull);
     t0 = l6 + 120ull;
-    f282(m, t0, l2, l3);
+    f276(m, t0, l2, l3);
     w0 = I32_LOAD8_U(m, l6 + 120u);
     if (w0) goto L0;
     t0 = I64_LOAD8_U(m, l6 + 224u);
@@ -75582,7 +74644,7 @@ static u32 f232(Machine *m, u64 l0, u64 l1, u64 l2, u64 l3, u64 l4) {
     goto L21;
     L22:;
     t0 = l6 + 8ull;
-    f162(m, t0, l0, l3, 1ull);
+    f158(m, t0, l0, l3, 1ull);
     t0 = I64_LOAD(m, l6 + 16u);
     l12 = t0;
     w0 = I32_LOAD8_U(m, l6 + 8u);
@@ -75667,7 +74729,7 @@ static u32 f232(Machine *m, u64 l0, u64 l1, u64 l2, u64 l3, u64 l4) {
     l2 = t1;
     w0 = t0 != l2;
     if (w0) goto L29;
-    w0 = f283(m, l4);
+    w0 = f277(m, l4);
     w0 = w0 == 0;
     if (w0) goto L28;
     t0 = l4 + 8ull;
@@ -75724,7 +74786,7 @@ static u32 f232(Machine *m, u64 l0, u64 l1, u64 l2, u64 l3, u64 l4) {
 }
 
 /* bech32_correction::erasures::distinct_below::<#b6060419b250a926> */
-static void f233(Machine *m, u64 l0, u64 l1, u64 l2, u64 l3, u64 l4) {
+static void f228(Machine *m, u64 l0, u64 l1, u64 l2, u64 l3, u64 l4) {
     u32 l10 = 0, l14 = 0, w0, w1, w2, w3;
     u64 l5 = 0, l6 = 0, l7 = 0, l8 = 0, l9 = 0, l11 = 0, l12 = 0, l13 = 0, l15 = 0, t0, t1, t2;
     FRAME(m, 144u);
@@ -75904,7 +74966,7 @@ static void f233(Machine *m, u64 l0, u64 l1, u64 l2, u64 l3, u64 l4) {
     w0 = l11 != t0;
     if (w0) goto L19;
     t0 = l6 + 64ull;
-    w0 = f253(m, t0);
+    w0 = f247(m, t0);
     l14 = w0;
     w0 = I32_LOAD8_U(m, l6 + 64u);
     l10 = w0;
@@ -76050,7 +75112,7 @@ static void f233(Machine *m, u64 l0, u64 l1, u64 l2, u64 l3, u64 l4) {
 }
 
 /* bech32_bch::terms::locators_of::<#9344f43d5132a933> */
-static void f234(Machine *m, u64 l0, u64 l1, u32 l2, u64 l3, u64 l4) {
+static void f229(Machine *m, u64 l0, u64 l1, u32 l2, u64 l3, u64 l4) {
     u32 l8 = 0, l9 = 0, l10 = 0, l11 = 0, l12 = 0, l13 = 0, l14 = 0, w0, w1;
     u64 l5 = 0, l6 = 0, l7 = 0, t0, t1, t2;
     FRAME(m, 48u);
@@ -76236,7 +75298,7 @@ static void f234(Machine *m, u64 l0, u64 l1, u32 l2, u64 l3, u64 l4) {
     w0 = t0 != t1;
     if (w0) goto L17;
     t0 = l6 + 8ull;
-    w0 = f255(m, t0);
+    w0 = f249(m, t0);
     l12 = w0;
     w0 = I32_LOAD8_U(m, l6 + 8u);
     l9 = w0;
@@ -76343,7 +75405,7 @@ static void f234(Machine *m, u64 l0, u64 l1, u32 l2, u64 l3, u64 l4) {
 }
 
 /* bech32_correction::corrector::Corrector::listing::<#66be050040641104> */
-static void f235(Machine *m, u64 l0, u64 l1) {
+static void f230(Machine *m, u64 l0, u64 l1) {
     u32 l3 = 0, l9 = 0, l10 = 0, l11 = 0, w0, w1;
     u64 l2 = 0, l4 = 0, l5 = 0, l6 = 0, l7 = 0, l8 = 0, l12 = 0, l13 = 0, l14 = 0, t0, t1, t2;
     FRAME(m, 1248u);
@@ -76649,7 +75711,7 @@ static void f235(Machine *m, u64 l0, u64 l1) {
     w0 = t0 != 7ull;
     if (w0) goto L39;
     t0 = l2 + 1064ull;
-    w0 = f258(m, t0);
+    w0 = f252(m, t0);
     l9 = w0;
     w0 = I32_LOAD8_U(m, l2 + 1064u);
     l10 = w0;
@@ -77054,7 +76116,7 @@ static void f235(Machine *m, u64 l0, u64 l1) {
     I64_STORE(m, l2 + 1016u, l14);
     t0 = l2 + 1064ull;
     t1 = l2 + 968ull;
-    f259(m, t0, l4, t1, l14);
+    f253(m, t0, l4, t1, l14);
     w0 = I32_LOAD8_U(m, l2 + 1064u);
     if (w0) goto L58;
     w0 = I32_LOAD8_U(m, l2 + 1072u);
@@ -77248,7 +76310,7 @@ static void f235(Machine *m, u64 l0, u64 l1) {
     t0 = l2 + 1064ull;
     t1 = I64_LOAD(m, l7);
     t2 = l2 + 544ull;
-    f260(m, t0, l4, l12, t1, t2);
+    f254(m, t0, l4, l12, t1, t2);
     w0 = I32_LOAD8_U(m, l2 + 1064u);
     if (w0) goto L72;
     w0 = I32_LOAD8_U(m, l2 + 1072u);
@@ -77269,7 +76331,7 @@ static void f235(Machine *m, u64 l0, u64 l1) {
     L65:;
     t0 = l2 + 392ull;
     t1 = l1 + 80ull;
-    f279(m, t0, l4, l5, l7, l1, t1);
+    f273(m, t0, l4, l5, l7, l1, t1);
     w0 = I32_LOAD8_U(m, l2 + 408u);
     l9 = w0;
     w0 = I32_LOAD8_U(m, l2 + 400u);
@@ -77309,119 +76371,38 @@ static void f235(Machine *m, u64 l0, u64 l1) {
 }
 
 /* std_alloc::vec::Vec::grow_amortized::<#d420fff15bd3b770> */
-static u32 f236(Machine *m, u64 l0) {
-    u32 l2 = 0, l8 = 0, l10 = 0, w0;
-    u64 l1 = 0, l3 = 0, l4 = 0, l5 = 0, l6 = 0, l7 = 0, l9 = 0, t0, t1;
-    FRAME(m, 32u);
-    t0 = m->stack_pointer;
-    t0 = t0 - 32ull;
-    l1 = t0;
-    m->stack_pointer = l1;
-    l2 = 0u;
+static u32 f231(Machine *m, u64 l0) {
+    u32 l5 = 0, w0;
+    u64 l2 = 0, l3 = 0, l4 = 0, t0;
     t0 = l0 + 8ull;
     t0 = I64_LOAD(m, t0);
-    l3 = t0;
-    w0 = l3 == 18446744073709551615ull;
+    l2 = t0;
+    w0 = l2 != 18446744073709551615ull;
     if (w0) goto L1;
-    w0 = l3 > 3ull;
-    t0 = w0 ? l3 : 3ull;
-    t0 = t0 + 1ull;
-    l4 = t0;
-    t0 = l0 + 16ull;
-    t0 = I64_LOAD(m, t0);
-    l5 = t0;
-    t0 = l5 << 1;
-    l6 = t0;
-    w0 = l4 > l6;
-    t0 = w0 ? l4 : l6;
-    l6 = t0;
-    w0 = l5 < 4611686018427387904ull;
-    t0 = w0 ? l6 : l4;
-    l4 = t0;
-    w0 = l4 > 67818912035696880ull;
-    if (w0) goto L1;
-    t0 = l0 + 24ull;
-    t0 = I64_LOAD(m, t0);
-    l7 = t0;
-    w0 = l5 == 0;
-    if (w0) goto L3;
-    t0 = l1 + 16ull;
-    t1 = I64_LOAD(m, l0);
-    f212(m, t0, l7, t1, l3, l5, l4);
-    t0 = I64_LOAD(m, l1 + 24u);
-    l3 = t0;
-    w0 = I32_LOAD8_U(m, l1 + 16u);
-    l8 = w0;
-    goto L2;
-    L3:;
-    t0 = l6 * 136ull;
-    l3 = t0;
-    t0 = I64_LOAD(m, l7);
-    l5 = t0;
-    t0 = l5 + 16ull;
-    t0 = I64_LOAD(m, t0);
-    w0 = t0 == 0;
-    if (w0) goto L5;
-    t0 = l5 + 8ull;
-    t0 = I64_LOAD(m, t0);
-    l6 = t0;
-    t0 = l6 + 32ull;
-    l7 = t0;
-    t0 = I64_LOAD(m, l7);
-    t0 = t0 & 18446744073709551608ull;
-    l9 = t0;
-    w0 = l9 < l3;
-    if (w0) goto L5;
-    t0 = l9 - l3;
-    l3 = t0;
-    I64_STORE(m, l7, l3);
-    t0 = I64_LOAD(m, l6);
-    t0 = t0 + l3;
-    l3 = t0;
-    l10 = 1u;
-    goto L4;
-    L5:;
-    f162(m, l1, l5, l3, 8ull);
-    t0 = I64_LOAD(m, l1 + 8u);
-    l3 = t0;
-    w0 = I32_LOAD8_U(m, l1);
-    l10 = w0;
-    L4:;
-    l8 = 1u;
-    w0 = l10 & 1u;
-    if (w0) goto L6;
-    l3 = 0ull;
-    goto L2;
-    L6:;
-    t0 = l5 + 24ull;
-    l5 = t0;
-    t0 = I64_LOAD(m, l5);
-    l6 = t0;
-    w0 = l6 != 18446744073709551615ull;
-    if (w0) goto L7;
-    l3 = 0ull;
-    goto L2;
-    L7:;
-    t0 = l6 + 1ull;
-    I64_STORE(m, l5, t0);
-    l8 = 0u;
-    L2:;
-    w0 = l8 & 255u;
-    if (w0) goto L1;
-    t0 = l0 + 16ull;
-    I64_STORE(m, t0, l4);
-    I64_STORE(m, l0, l3);
-    l2 = 1u;
+    return 0u;
     L1:;
-    t0 = l1 + 32ull;
-    m->stack_pointer = t0;
-    return l2;
+    w0 = l2 > 3ull;
+    t0 = w0 ? l2 : 3ull;
+    t0 = t0 + 1ull;
+    l2 = t0;
+    t0 = l0 + 16ull;
+    t0 = I64_LOAD(m, t0);
+    l3 = t0;
+    t0 = l3 << 1;
+    l4 = t0;
+    w0 = l2 > l4;
+    t0 = w0 ? l2 : l4;
+    w0 = l3 < 4611686018427387904ull;
+    t0 = w0 ? t0 : l2;
+    w0 = f265(m, l0, t0);
+    l5 = w0;
+    return l5;
     TRAP(m);
     return 0;
 }
 
-/* std_alloc::vec::Vec::grow_amortized::<#d94137abc1b93c05> */
-static u32 f237(Machine *m, u64 l0) {
+/* std_alloc::vec::Vec::grow_amortized::<#8ce46f505f219949> */
+static u32 f232(Machine *m, u64 l0) {
     u32 l2 = 0, l8 = 0, l10 = 0, w0;
     u64 l1 = 0, l3 = 0, l4 = 0, l5 = 0, l6 = 0, l7 = 0, l9 = 0, t0, t1;
     FRAME(m, 32u);
@@ -77459,7 +76440,7 @@ static u32 f237(Machine *m, u64 l0) {
     if (w0) goto L3;
     t0 = l1 + 16ull;
     t1 = I64_LOAD(m, l0);
-    f213(m, t0, l7, t1, l3, l5, l4);
+    f210(m, t0, l7, t1, l3, l5, l4);
     t0 = I64_LOAD(m, l1 + 24u);
     l3 = t0;
     w0 = I32_LOAD8_U(m, l1 + 16u);
@@ -77493,7 +76474,7 @@ static u32 f237(Machine *m, u64 l0) {
     l10 = 1u;
     goto L4;
     L5:;
-    f162(m, l1, l5, l3, 8ull);
+    f158(m, l1, l5, l3, 8ull);
     t0 = I64_LOAD(m, l1 + 8u);
     l3 = t0;
     w0 = I32_LOAD8_U(m, l1);
@@ -77532,8 +76513,8 @@ static u32 f237(Machine *m, u64 l0) {
     return 0;
 }
 
-/* std_alloc::vec::Vec::grow_amortized::<#5c2647daf5997e08> */
-static u32 f238(Machine *m, u64 l0) {
+/* std_alloc::vec::Vec::grow_amortized::<#8524f6c10dd49a9e> */
+static u32 f233(Machine *m, u64 l0) {
     u32 l2 = 0, l8 = 0, l10 = 0, w0;
     u64 l1 = 0, l3 = 0, l4 = 0, l5 = 0, l6 = 0, l7 = 0, l9 = 0, t0, t1;
     FRAME(m, 32u);
@@ -77571,7 +76552,7 @@ static u32 f238(Machine *m, u64 l0) {
     if (w0) goto L3;
     t0 = l1 + 16ull;
     t1 = I64_LOAD(m, l0);
-    f194(m, t0, l7, t1, l3, l5, l4);
+    f189(m, t0, l7, t1, l3, l5, l4);
     t0 = I64_LOAD(m, l1 + 24u);
     l3 = t0;
     w0 = I32_LOAD8_U(m, l1 + 16u);
@@ -77605,7 +76586,7 @@ static u32 f238(Machine *m, u64 l0) {
     l10 = 1u;
     goto L4;
     L5:;
-    f162(m, l1, l5, l3, 8ull);
+    f158(m, l1, l5, l3, 8ull);
     t0 = I64_LOAD(m, l1 + 8u);
     l3 = t0;
     w0 = I32_LOAD8_U(m, l1);
@@ -77644,8 +76625,8 @@ static u32 f238(Machine *m, u64 l0) {
     return 0;
 }
 
-/* bech32_near_search::table::entries_of::<#31d513ba7f74eccd> */
-static void f239(Machine *m, u64 l0, u64 l1, u64 l2, u64 l3) {
+/* bech32_near::search::table::entries_of::<#2ef9eb24fe536ab1> */
+static void f234(Machine *m, u64 l0, u64 l1, u64 l2, u64 l3) {
     u32 l13 = 0, w0;
     u64 l4 = 0, l5 = 0, l6 = 0, l7 = 0, l8 = 0, l9 = 0, l10 = 0, l11 = 0, l12 = 0, l14 = 0, l15 = 0, l16 = 0, l17 = 0, t0, t1, t2;
     FRAME(m, 64u);
@@ -77700,7 +76681,7 @@ static void f239(Machine *m, u64 l0, u64 l1, u64 l2, u64 l3) {
     goto L6;
     L7:;
     t0 = l5 + 8ull;
-    f162(m, t0, l9, l8, 8ull);
+    f158(m, t0, l9, l8, 8ull);
     t0 = I64_LOAD(m, l5 + 16u);
     l8 = t0;
     w0 = I32_LOAD8_U(m, l5 + 8u);
@@ -77765,7 +76746,7 @@ static void f239(Machine *m, u64 l0, u64 l1, u64 l2, u64 l3) {
     w0 = t0 != l4;
     if (w0) goto L11;
     t0 = l5 + 24ull;
-    w0 = f238(m, t0);
+    w0 = f233(m, t0);
     w0 = w0 == 0;
     if (w0) goto L2;
     t0 = I64_LOAD(m, l5 + 24u);
@@ -77809,7 +76790,7 @@ static void f239(Machine *m, u64 l0, u64 l1, u64 l2, u64 l3) {
     t0 = I64_LOAD(m, l5 + 24u);
     l8 = t0;
     L8:;
-    f140(m, l8, l4);
+    f141(m, l8, l4);
     I32_STORE8(m, l0, 0u);
     t0 = l0 + 8ull;
     t1 = I64_LOAD(m, l5 + 24u);
@@ -77886,8 +76867,8 @@ static void f239(Machine *m, u64 l0, u64 l1, u64 l2, u64 l3) {
     m->stack_pointer = t0;
 }
 
-/* bech32_near_search::pairs::add_single::<#66be050040641104> */
-static u32 f240(Machine *m, u64 l0, u64 l1, u64 l2, u64 l3, u64 l4, u64 l5, u64 l6) {
+/* bech32_near::search::pairs::add_single::<#66be050040641104> */
+static u32 f235(Machine *m, u64 l0, u64 l1, u64 l2, u64 l3, u64 l4, u64 l5, u64 l6) {
     u32 l13 = 0, l17 = 0, w0, w1, w2, w3;
     u64 l8 = 0, l9 = 0, l10 = 0, l11 = 0, l12 = 0, l14 = 0, l15 = 0, l16 = 0, l18 = 0, t0, t1, t2;
     t0 = l0 + 124ull;
@@ -77978,7 +76959,7 @@ static u32 f240(Machine *m, u64 l0, u64 l1, u64 l2, u64 l3, u64 l4, u64 l5, u64 
     t0 = I64_LOAD(m, t0);
     w0 = t0 != 0ull;
     if (w0) goto L6;
-    w0 = f144(m, l8);
+    w0 = f145(m, l8);
     w0 = w0 == 0;
     if (w0) goto L0;
     t0 = l13 ? 32ull : 72ull;
@@ -77993,7 +76974,7 @@ static u32 f240(Machine *m, u64 l0, u64 l1, u64 l2, u64 l3, u64 l4, u64 l5, u64 
     l10 = t1;
     w0 = t0 != l10;
     if (w0) goto L7;
-    w0 = f241(m, l6);
+    w0 = f231(m, l6);
     if (w0) goto L8;
     return 1u;
     L8:;
@@ -78012,7 +76993,7 @@ static u32 f240(Machine *m, u64 l0, u64 l1, u64 l2, u64 l3, u64 l4, u64 l5, u64 
     I64_STORE(m, l1, t0);
     goto L0;
     L6:;
-    w0 = f242(m, l0, 0ull, 0ull, l6);
+    w0 = f236(m, l0, 0ull, 0ull, l6);
     w0 = w0 & 255u;
     w0 = w0 == 0;
     if (w0) goto L0;
@@ -78160,7 +77141,7 @@ static u32 f240(Machine *m, u64 l0, u64 l1, u64 l2, u64 l3, u64 l4, u64 l5, u64 
     w0 = l13 & 1u;
     if (w0) goto L16;
     L18:;
-    w0 = f280(m, l0, l9, l17, 0ull, l6);
+    w0 = f274(m, l0, l9, l17, 0ull, l6);
     w0 = w0 & 255u;
     w0 = w0 == 0;
     if (w0) goto L16;
@@ -78177,39 +77158,8 @@ static u32 f240(Machine *m, u64 l0, u64 l1, u64 l2, u64 l3, u64 l4, u64 l5, u64 
     return 0u;
 }
 
-/* std_alloc::vec::Vec::grow_amortized::<#76dbb03d3435055a> */
-static u32 f241(Machine *m, u64 l0) {
-    u32 l5 = 0, w0;
-    u64 l2 = 0, l3 = 0, l4 = 0, t0;
-    t0 = l0 + 8ull;
-    t0 = I64_LOAD(m, t0);
-    l2 = t0;
-    w0 = l2 != 18446744073709551615ull;
-    if (w0) goto L1;
-    return 0u;
-    L1:;
-    w0 = l2 > 3ull;
-    t0 = w0 ? l2 : 3ull;
-    t0 = t0 + 1ull;
-    l2 = t0;
-    t0 = l0 + 16ull;
-    t0 = I64_LOAD(m, t0);
-    l3 = t0;
-    t0 = l3 << 1;
-    l4 = t0;
-    w0 = l2 > l4;
-    t0 = w0 ? l2 : l4;
-    w0 = l3 < 4611686018427387904ull;
-    t0 = w0 ? t0 : l2;
-    w0 = f272(m, l0, t0);
-    l5 = w0;
-    return l5;
-    TRAP(m);
-    return 0;
-}
-
-/* bech32_near_search::gathering::add_answer::<#66be050040641104> */
-static u32 f242(Machine *m, u64 l0, u64 l1, u64 l2, u64 l3) {
+/* bech32_near::search::gathering::add_answer::<#66be050040641104> */
+static u32 f236(Machine *m, u64 l0, u64 l1, u64 l2, u64 l3) {
     u32 l6 = 0, l7 = 0, w0;
     u64 l4 = 0, l5 = 0, l8 = 0, l9 = 0, l10 = 0, l11 = 0, t0, t1;
     FRAME(m, 288u);
@@ -78223,7 +77173,7 @@ static u32 f242(Machine *m, u64 l0, u64 l1, u64 l2, u64 l3) {
     t0 = l0 + t0;
     t0 = I64_LOAD(m, t0);
     l5 = t0;
-    f235(m, l4, l0);
+    f230(m, l4, l0);
     l6 = 1u;
     w0 = I32_LOAD8_U(m, l4);
     if (w0) goto L1;
@@ -78321,7 +77271,7 @@ static u32 f242(Machine *m, u64 l0, u64 l1, u64 l2, u64 l3) {
     l2 = t1;
     w0 = t0 != l2;
     if (w0) goto L8;
-    w0 = f241(m, l3);
+    w0 = f231(m, l3);
     w0 = w0 == 0;
     if (w0) goto L2;
     t0 = l3 + 8ull;
@@ -78390,8 +77340,8 @@ static u32 f242(Machine *m, u64 l0, u64 l1, u64 l2, u64 l3) {
     return 0;
 }
 
-/* bech32_near_search::gathering::gather::<#66be050040641104> */
-static u32 f243(Machine *m, u64 l0, u64 l1, u64 l2, u64 l3) {
+/* bech32_near::search::gathering::gather::<#66be050040641104> */
+static u32 f237(Machine *m, u64 l0, u64 l1, u64 l2, u64 l3) {
     u32 l6 = 0, l32 = 0, l36 = 0, l37 = 0, l38 = 0, w0, w1, w2, w3;
     u64 l4 = 0, l5 = 0, l7 = 0, l8 = 0, l9 = 0, l10 = 0, l11 = 0, l12 = 0, l13 = 0, l14 = 0, l15 = 0, l16 = 0, l17 = 0, l18 = 0, l19 = 0, l20 = 0;
     u64 l21 = 0, l22 = 0, l23 = 0, l24 = 0, l25 = 0, l26 = 0, l27 = 0, l28 = 0, l29 = 0, l30 = 0, l31 = 0, l33 = 0, l34 = 0, l35 = 0, t0, t1;
@@ -78414,7 +77364,7 @@ static u32 f243(Machine *m, u64 l0, u64 l1, u64 l2, u64 l3) {
     t0 = t0 >> 1;
     w0 = l1 > t0;
     if (w0) goto L3;
-    w0 = f242(m, l0, l1, l2, l3);
+    w0 = f236(m, l0, l1, l2, l3);
     w0 = w0 & 255u;
     l6 = w0;
     goto L0;
@@ -78423,14 +77373,14 @@ static u32 f243(Machine *m, u64 l0, u64 l1, u64 l2, u64 l3) {
     if (w0) goto L4;
     w0 = l4 == 0;
     if (w0) goto L6;
-    w0 = f242(m, l0, 0ull, 0ull, l3);
+    w0 = f236(m, l0, 0ull, 0ull, l3);
     w0 = w0 & 255u;
     w0 = w0 == 0;
     if (w0) goto L5;
     goto L1;
     L6:;
     t0 = l0 + 120ull;
-    w0 = f144(m, t0);
+    w0 = f145(m, t0);
     w0 = w0 == 0;
     if (w0) goto L5;
     t0 = l6 ? 32ull : 72ull;
@@ -78445,7 +77395,7 @@ static u32 f243(Machine *m, u64 l0, u64 l1, u64 l2, u64 l3) {
     l4 = t1;
     w0 = t0 != l4;
     if (w0) goto L7;
-    w0 = f241(m, l3);
+    w0 = f231(m, l3);
     w0 = w0 == 0;
     if (w0) goto L1;
     t0 = l3 + 8ull;
@@ -78606,97 +77556,97 @@ static u32 f243(Machine *m, u64 l0, u64 l1, u64 l2, u64 l3) {
     if (w0) goto L16;
     L17:;
     l6 = 1u;
-    w0 = f280(m, l0, l1, 1u, l10, l3);
+    w0 = f274(m, l0, l1, 1u, l10, l3);
     w0 = w0 & 255u;
     if (w0) goto L0;
-    w0 = f280(m, l0, l1, 2u, l10, l3);
+    w0 = f274(m, l0, l1, 2u, l10, l3);
     w0 = w0 & 255u;
     if (w0) goto L0;
-    w0 = f280(m, l0, l1, 3u, l10, l3);
+    w0 = f274(m, l0, l1, 3u, l10, l3);
     w0 = w0 & 255u;
     if (w0) goto L0;
-    w0 = f280(m, l0, l1, 4u, l10, l3);
+    w0 = f274(m, l0, l1, 4u, l10, l3);
     w0 = w0 & 255u;
     if (w0) goto L0;
-    w0 = f280(m, l0, l1, 5u, l10, l3);
+    w0 = f274(m, l0, l1, 5u, l10, l3);
     w0 = w0 & 255u;
     if (w0) goto L0;
-    w0 = f280(m, l0, l1, 6u, l10, l3);
+    w0 = f274(m, l0, l1, 6u, l10, l3);
     w0 = w0 & 255u;
     if (w0) goto L0;
-    w0 = f280(m, l0, l1, 7u, l10, l3);
+    w0 = f274(m, l0, l1, 7u, l10, l3);
     w0 = w0 & 255u;
     if (w0) goto L0;
-    w0 = f280(m, l0, l1, 8u, l10, l3);
+    w0 = f274(m, l0, l1, 8u, l10, l3);
     w0 = w0 & 255u;
     if (w0) goto L0;
-    w0 = f280(m, l0, l1, 9u, l10, l3);
+    w0 = f274(m, l0, l1, 9u, l10, l3);
     w0 = w0 & 255u;
     if (w0) goto L0;
-    w0 = f280(m, l0, l1, 10u, l10, l3);
+    w0 = f274(m, l0, l1, 10u, l10, l3);
     w0 = w0 & 255u;
     if (w0) goto L0;
-    w0 = f280(m, l0, l1, 11u, l10, l3);
+    w0 = f274(m, l0, l1, 11u, l10, l3);
     w0 = w0 & 255u;
     if (w0) goto L0;
-    w0 = f280(m, l0, l1, 12u, l10, l3);
+    w0 = f274(m, l0, l1, 12u, l10, l3);
     w0 = w0 & 255u;
     if (w0) goto L0;
-    w0 = f280(m, l0, l1, 13u, l10, l3);
+    w0 = f274(m, l0, l1, 13u, l10, l3);
     w0 = w0 & 255u;
     if (w0) goto L0;
-    w0 = f280(m, l0, l1, 14u, l10, l3);
+    w0 = f274(m, l0, l1, 14u, l10, l3);
     w0 = w0 & 255u;
     if (w0) goto L0;
-    w0 = f280(m, l0, l1, 15u, l10, l3);
+    w0 = f274(m, l0, l1, 15u, l10, l3);
     w0 = w0 & 255u;
     if (w0) goto L0;
-    w0 = f280(m, l0, l1, 16u, l10, l3);
+    w0 = f274(m, l0, l1, 16u, l10, l3);
     w0 = w0 & 255u;
     if (w0) goto L0;
-    w0 = f280(m, l0, l1, 17u, l10, l3);
+    w0 = f274(m, l0, l1, 17u, l10, l3);
     w0 = w0 & 255u;
     if (w0) goto L0;
-    w0 = f280(m, l0, l1, 18u, l10, l3);
+    w0 = f274(m, l0, l1, 18u, l10, l3);
     w0 = w0 & 255u;
     if (w0) goto L0;
-    w0 = f280(m, l0, l1, 19u, l10, l3);
+    w0 = f274(m, l0, l1, 19u, l10, l3);
     w0 = w0 & 255u;
     if (w0) goto L0;
-    w0 = f280(m, l0, l1, 20u, l10, l3);
+    w0 = f274(m, l0, l1, 20u, l10, l3);
     w0 = w0 & 255u;
     if (w0) goto L0;
-    w0 = f280(m, l0, l1, 21u, l10, l3);
+    w0 = f274(m, l0, l1, 21u, l10, l3);
     w0 = w0 & 255u;
     if (w0) goto L0;
-    w0 = f280(m, l0, l1, 22u, l10, l3);
+    w0 = f274(m, l0, l1, 22u, l10, l3);
     w0 = w0 & 255u;
     if (w0) goto L0;
-    w0 = f280(m, l0, l1, 23u, l10, l3);
+    w0 = f274(m, l0, l1, 23u, l10, l3);
     w0 = w0 & 255u;
     if (w0) goto L0;
-    w0 = f280(m, l0, l1, 24u, l10, l3);
+    w0 = f274(m, l0, l1, 24u, l10, l3);
     w0 = w0 & 255u;
     if (w0) goto L0;
-    w0 = f280(m, l0, l1, 25u, l10, l3);
+    w0 = f274(m, l0, l1, 25u, l10, l3);
     w0 = w0 & 255u;
     if (w0) goto L0;
-    w0 = f280(m, l0, l1, 26u, l10, l3);
+    w0 = f274(m, l0, l1, 26u, l10, l3);
     w0 = w0 & 255u;
     if (w0) goto L0;
-    w0 = f280(m, l0, l1, 27u, l10, l3);
+    w0 = f274(m, l0, l1, 27u, l10, l3);
     w0 = w0 & 255u;
     if (w0) goto L0;
-    w0 = f280(m, l0, l1, 28u, l10, l3);
+    w0 = f274(m, l0, l1, 28u, l10, l3);
     w0 = w0 & 255u;
     if (w0) goto L0;
-    w0 = f280(m, l0, l1, 29u, l10, l3);
+    w0 = f274(m, l0, l1, 29u, l10, l3);
     w0 = w0 & 255u;
     if (w0) goto L0;
-    w0 = f280(m, l0, l1, 30u, l10, l3);
+    w0 = f274(m, l0, l1, 30u, l10, l3);
     w0 = w0 & 255u;
     if (w0) goto L0;
-    w0 = f280(m, l0, l1, 31u, l10, l3);
+    w0 = f274(m, l0, l1, 31u, l10, l3);
     w0 = w0 & 255u;
     if (w0) goto L0;
     goto L10;
@@ -78726,7 +77676,7 @@ static u32 f243(Machine *m, u64 l0, u64 l1, u64 l2, u64 l3) {
     t1 = I64_LOAD(m, t1);
     t2 = I64_LOAD(m, l7);
     l7 = t2;
-    f268(m, t0, t1, l34, l7);
+    f262(m, t0, t1, l34, l7);
     w0 = I32_LOAD8_U(m, l5 + 264u);
     if (w0) goto L1;
     w0 = I32_LOAD8_U(m, l5 + 272u);
@@ -78743,7 +77693,7 @@ static u32 f243(Machine *m, u64 l0, u64 l1, u64 l2, u64 l3) {
     w0 = t0 != t1;
     if (w0) goto L30;
     t0 = l5 + 352ull;
-    w0 = f253(m, t0);
+    w0 = f247(m, t0);
     l32 = w0;
     w0 = I32_LOAD8_U(m, l5 + 352u);
     l6 = w0;
@@ -78863,7 +77813,7 @@ static u32 f243(Machine *m, u64 l0, u64 l1, u64 l2, u64 l3) {
     w0 = l4 < l7;
     t2 = w0 ? t2 : l7;
     l4 = t2;
-    f233(m, t0, l8, t1, l9, l4);
+    f228(m, t0, l8, t1, l9, l4);
     w0 = I32_LOAD8_U(m, l5 + 720u);
     if (w0) goto L38;
     l6 = 1u;
@@ -78922,7 +77872,7 @@ static u32 f243(Machine *m, u64 l0, u64 l1, u64 l2, u64 l3) {
     t1 = I64_LOAD(m, l5 + 864u);
     l9 = t1;
     t1 = l32 ? l9 : l27;
-    f234(m, t0, l8, 1537u, t1, l7);
+    f229(m, t0, l8, 1537u, t1, l7);
     t0 = I64_LOAD(m, l26);
     I64_STORE(m, l5 + 688u, t0);
     t0 = I64_LOAD(m, l26 + 8u);
@@ -79160,7 +78110,7 @@ static u32 f243(Machine *m, u64 l0, u64 l1, u64 l2, u64 l3) {
     l7 = t0;
     L67:;
     t0 = l5 + 1600ull;
-    w0 = f262(m, t0, l7, l36);
+    w0 = f256(m, t0, l7, l36);
     l37 = w0;
     w0 = I32_LOAD8_U(m, l5 + 1600u);
     l36 = w0;
@@ -79184,7 +78134,7 @@ static u32 f243(Machine *m, u64 l0, u64 l1, u64 l2, u64 l3) {
     t0 = I64_LOAD(m, l16);
     I64_STORE(m, l5 + 1344u, t0);
     t0 = l5 + 1344ull;
-    f264(m, t0);
+    f258(m, t0);
     L70:;
     l36 = 0u;
     MEMORY_FILL(m, l24, 0u, 144ull);
@@ -79340,7 +78290,7 @@ static u32 f243(Machine *m, u64 l0, u64 l1, u64 l2, u64 l3) {
     I64_STORE(m, l5 + 1472u, l7);
     t0 = l5 + 1600ull;
     t1 = l5 + 1472ull;
-    f259(m, t0, l8, t1, l9);
+    f253(m, t0, l8, t1, l9);
     w0 = I32_LOAD8_U(m, l5 + 1600u);
     if (w0) goto L78;
     w0 = I32_LOAD8_U(m, l5 + 1608u);
@@ -79392,7 +78342,7 @@ static u32 f243(Machine *m, u64 l0, u64 l1, u64 l2, u64 l3) {
     w0 = w0 != 1u;
     if (w0) goto L26;
     t0 = l5 + 1600ull;
-    f260(m, t0, l8, l9, l7, l23);
+    f254(m, t0, l8, l9, l7, l23);
     w0 = I32_LOAD8_U(m, l5 + 1600u);
     if (w0) goto L80;
     w0 = I32_LOAD8_U(m, l5 + 1608u);
@@ -79409,7 +78359,7 @@ static u32 f243(Machine *m, u64 l0, u64 l1, u64 l2, u64 l3) {
     t0 = l5 + 1192ull;
     t1 = l5 + 856ull;
     t2 = l5 + 816ull;
-    f279(m, t0, l8, l4, l11, t1, t2);
+    f273(m, t0, l8, l4, l11, t1, t2);
     w0 = I32_LOAD8_U(m, l5 + 1208u);
     l36 = w0;
     w0 = I32_LOAD8_U(m, l5 + 1200u);
@@ -79658,7 +78608,7 @@ static u32 f243(Machine *m, u64 l0, u64 l1, u64 l2, u64 l3) {
     I64_STORE(m, l5 + 128u, l4);
     MEMORY_COPY(m, l15, l5, 128ull);
     t0 = l5 + 128ull;
-    w0 = f275(m, t0, l33, l10, l1, l3);
+    w0 = f269(m, t0, l33, l10, l1, l3);
     l6 = w0;
     w0 = l4 != 1ull;
     t0 = I64_LOAD(m, l5 + 152u);
@@ -79748,7 +78698,7 @@ static u32 f243(Machine *m, u64 l0, u64 l1, u64 l2, u64 l3) {
 }
 
 /* bech32_correction::corrector::Corrector::without_error::<#66be050040641104> */
-static void f244(Machine *m, u64 l0, u64 l1, u64 l2, u32 l3) {
+static void f238(Machine *m, u64 l0, u64 l1, u64 l2, u32 l3) {
     u32 l5 = 0, w0;
     u64 l4 = 0, l6 = 0, l7 = 0, l8 = 0, l9 = 0, l10 = 0, l11 = 0, l12 = 0, t0, t1;
     FRAME(m, 272u);
@@ -79794,7 +78744,7 @@ static void f244(Machine *m, u64 l0, u64 l1, u64 l2, u32 l3) {
     L2:;
     t0 = l4 + 184ull;
     t1 = I64_LOAD(m, l8);
-    f268(m, t0, l6, l7, t1);
+    f262(m, t0, l6, l7, t1);
     t0 = I64_LOAD(m, l4 + 232u);
     I64_STORE(m, l4 + 144u, t0);
     t0 = I64_LOAD(m, l4 + 240u);
@@ -79843,7 +78793,7 @@ static void f244(Machine *m, u64 l0, u64 l1, u64 l2, u32 l3) {
     L6:;
     t0 = l4 + 184ull;
     t1 = I64_LOAD(m, l12);
-    f267(m, t0, l10, l11, t1);
+    f261(m, t0, l10, l11, t1);
     t0 = I64_LOAD(m, l4 + 200u);
     I64_STORE(m, l4 + 112u, t0);
     t0 = I64_LOAD(m, l4 + 208u);
@@ -79940,7 +78890,7 @@ static void f244(Machine *m, u64 l0, u64 l1, u64 l2, u32 l3) {
     w0 = l5 == 0;
     if (w0) goto L10;
     t0 = l1 + 120ull;
-    f217(m, l4, t0, l2, l3);
+    f212(m, l4, t0, l2, l3);
     t0 = l0 + 8ull;
     I64_STORE(m, t0, l12);
     I32_STORE8(m, l0, 0u);
@@ -80046,8 +78996,8 @@ static void f244(Machine *m, u64 l0, u64 l1, u64 l2, u32 l3) {
     m->stack_pointer = t0;
 }
 
-/* bech32_near_search::gathering::push_with::<#66be050040641104> */
-static u32 f245(Machine *m, u64 l0, u32 l1, u64 l2, u64 l3, u32 l4, u64 l5) {
+/* bech32_near::search::gathering::push_with::<#66be050040641104> */
+static u32 f239(Machine *m, u64 l0, u32 l1, u64 l2, u64 l3, u32 l4, u64 l5) {
     u32 w0;
     u64 l7 = 0, l8 = 0, l9 = 0, l10 = 0, l11 = 0, t0, t1, t2;
     t0 = I64_LOAD(m, l2 + 24u);
@@ -80064,7 +79014,7 @@ static u32 f245(Machine *m, u64 l0, u32 l1, u64 l2, u64 l3, u32 l4, u64 l5) {
     t0 = w0 ? 16ull : 64ull;
     t0 = l0 + t0;
     t0 = I64_LOAD(m, t0);
-    w0 = f273(m, l10, l9, t0, l3, l4, l5);
+    w0 = f267(m, l10, l9, t0, l3, l4, l5);
     w0 = w0 & 255u;
     if (w0) goto L2;
     w0 = l9 == 0;
@@ -80315,7 +79265,7 @@ static u32 f245(Machine *m, u64 l0, u32 l1, u64 l2, u64 l3, u32 l4, u64 l5) {
 }
 
 /* bech32_near::texts::mended_all::<#b6060419b250a926> */
-static void f246(Machine *m, u64 l0, u64 l1, u64 l2, u64 l3, u64 l4) {
+static void f240(Machine *m, u64 l0, u64 l1, u64 l2, u64 l3, u64 l4) {
     u32 l12 = 0, l17 = 0, l27 = 0, w0, w1;
     u64 l5 = 0, l6 = 0, l7 = 0, l8 = 0, l9 = 0, l10 = 0, l11 = 0, l13 = 0, l14 = 0, l15 = 0, l16 = 0, l18 = 0, l19 = 0, l20 = 0, l21 = 0, l22 = 0;
     u64 l23 = 0, l24 = 0, l25 = 0, l26 = 0, t0, t1, t2;
@@ -80396,7 +79346,7 @@ static void f246(Machine *m, u64 l0, u64 l1, u64 l2, u64 l3, u64 l4) {
     goto L5;
     L6:;
     t0 = l6 + 16ull;
-    f162(m, t0, l5, l4, 8ull);
+    f158(m, t0, l5, l4, 8ull);
     t0 = I64_LOAD(m, l6 + 24u);
     l13 = t0;
     w0 = I32_LOAD8_U(m, l6 + 16u);
@@ -80490,7 +79440,7 @@ static void f246(Machine *m, u64 l0, u64 l1, u64 l2, u64 l3, u64 l4) {
     l12 = 1u;
     goto L13;
     L14:;
-    f162(m, l6, l4, l3, 1ull);
+    f158(m, l6, l4, l3, 1ull);
     t0 = I64_LOAD(m, l6 + 8u);
     l16 = t0;
     w0 = I32_LOAD8_U(m, l6);
@@ -80648,7 +79598,7 @@ static void f246(Machine *m, u64 l0, u64 l1, u64 l2, u64 l3, u64 l4) {
     w0 = t0 != l24;
     if (w0) goto L24;
     t0 = l6 + 272ull;
-    w0 = f276(m, t0);
+    w0 = f270(m, t0);
     w0 = w0 == 0;
     if (w0) goto L7;
     t0 = I64_LOAD(m, l6 + 272u);
@@ -80693,7 +79643,7 @@ static void f246(Machine *m, u64 l0, u64 l1, u64 l2, u64 l3, u64 l4) {
     I64_STORE(m, l6 + 40u, 0ull);
     I64_STORE(m, l6 + 32u, l10);
     t0 = l6 + 32ull;
-    f277(m, t0);
+    f271(m, t0);
     I32_STORE8(m, l0, 0u);
     t0 = l0 + 8ull;
     t1 = I64_LOAD(m, l6 + 272u);
@@ -80750,9 +79700,9 @@ static void f246(Machine *m, u64 l0, u64 l1, u64 l2, u64 l3, u64 l4) {
     I64_STORE(m, l6 + 136u, l9);
     I64_STORE(m, l6 + 128u, l10);
     t0 = l6 + 128ull;
-    f277(m, t0);
+    f271(m, t0);
     t0 = l6 + 272ull;
-    f278(m, t0);
+    f272(m, t0);
     t0 = l0 + 8ull;
     I64_STORE(m, t0, 0ull);
     I32_STORE8(m, l0, 1u);
@@ -80829,9 +79779,9 @@ static void f246(Machine *m, u64 l0, u64 l1, u64 l2, u64 l3, u64 l4) {
     I64_STORE(m, l6 + 88u, l9);
     I64_STORE(m, l6 + 80u, l10);
     t0 = l6 + 80ull;
-    f277(m, t0);
+    f271(m, t0);
     t0 = l6 + 272ull;
-    f278(m, t0);
+    f272(m, t0);
     t0 = l0 + 8ull;
     I64_STORE(m, t0, 0ull);
     I32_STORE8(m, l0, 1u);
@@ -80936,7 +79886,7 @@ static void f246(Machine *m, u64 l0, u64 l1, u64 l2, u64 l3, u64 l4) {
 }
 
 /* bech32_correction::corrector::Corrector::listing::<#ba6812a3a566c182> */
-static void f247(Machine *m, u64 l0, u64 l1) {
+static void f241(Machine *m, u64 l0, u64 l1) {
     u32 l3 = 0, l9 = 0, l10 = 0, l11 = 0, w0, w1;
     u64 l2 = 0, l4 = 0, l5 = 0, l6 = 0, l7 = 0, l8 = 0, l12 = 0, l13 = 0, l14 = 0, t0, t1, t2;
     FRAME(m, 1248u);
@@ -81242,7 +80192,7 @@ static void f247(Machine *m, u64 l0, u64 l1) {
     w0 = t0 != 7ull;
     if (w0) goto L39;
     t0 = l2 + 1064ull;
-    w0 = f258(m, t0);
+    w0 = f252(m, t0);
     l9 = w0;
     w0 = I32_LOAD8_U(m, l2 + 1064u);
     l10 = w0;
@@ -81647,7 +80597,7 @@ static void f247(Machine *m, u64 l0, u64 l1) {
     I64_STORE(m, l2 + 1016u, l14);
     t0 = l2 + 1064ull;
     t1 = l2 + 968ull;
-    f259(m, t0, l4, t1, l14);
+    f253(m, t0, l4, t1, l14);
     w0 = I32_LOAD8_U(m, l2 + 1064u);
     if (w0) goto L58;
     w0 = I32_LOAD8_U(m, l2 + 1072u);
@@ -81841,7 +80791,7 @@ static void f247(Machine *m, u64 l0, u64 l1) {
     t0 = l2 + 1064ull;
     t1 = I64_LOAD(m, l7);
     t2 = l2 + 544ull;
-    f260(m, t0, l4, l12, t1, t2);
+    f254(m, t0, l4, l12, t1, t2);
     w0 = I32_LOAD8_U(m, l2 + 1064u);
     if (w0) goto L72;
     w0 = I32_LOAD8_U(m, l2 + 1072u);
@@ -81862,7 +80812,7 @@ static void f247(Machine *m, u64 l0, u64 l1) {
     L65:;
     t0 = l2 + 392ull;
     t1 = l1 + 80ull;
-    f261(m, t0, l4, l5, l7, l1, t1);
+    f255(m, t0, l4, l5, l7, l1, t1);
     w0 = I32_LOAD8_U(m, l2 + 408u);
     l9 = w0;
     w0 = I32_LOAD8_U(m, l2 + 400u);
@@ -81901,8 +80851,8 @@ static void f247(Machine *m, u64 l0, u64 l1) {
     m->stack_pointer = t0;
 }
 
-/* bech32_near_search::pairs::add_single::<#ba6812a3a566c182> */
-static u32 f248(Machine *m, u64 l0, u64 l1, u64 l2, u64 l3, u64 l4, u64 l5, u64 l6) {
+/* bech32_near::search::pairs::add_single::<#ba6812a3a566c182> */
+static u32 f242(Machine *m, u64 l0, u64 l1, u64 l2, u64 l3, u64 l4, u64 l5, u64 l6) {
     u32 l13 = 0, l17 = 0, w0, w1, w2, w3;
     u64 l8 = 0, l9 = 0, l10 = 0, l11 = 0, l12 = 0, l14 = 0, l15 = 0, l16 = 0, l18 = 0, t0, t1, t2;
     t0 = l0 + 124ull;
@@ -81993,7 +80943,7 @@ static u32 f248(Machine *m, u64 l0, u64 l1, u64 l2, u64 l3, u64 l4, u64 l5, u64 
     t0 = I64_LOAD(m, t0);
     w0 = t0 != 0ull;
     if (w0) goto L6;
-    w0 = f144(m, l8);
+    w0 = f145(m, l8);
     w0 = w0 == 0;
     if (w0) goto L0;
     t0 = l13 ? 32ull : 72ull;
@@ -82008,7 +80958,7 @@ static u32 f248(Machine *m, u64 l0, u64 l1, u64 l2, u64 l3, u64 l4, u64 l5, u64 
     l10 = t1;
     w0 = t0 != l10;
     if (w0) goto L7;
-    w0 = f241(m, l6);
+    w0 = f231(m, l6);
     if (w0) goto L8;
     return 1u;
     L8:;
@@ -82027,7 +80977,7 @@ static u32 f248(Machine *m, u64 l0, u64 l1, u64 l2, u64 l3, u64 l4, u64 l5, u64 
     I64_STORE(m, l1, t0);
     goto L0;
     L6:;
-    w0 = f249(m, l0, 0ull, 0ull, l6);
+    w0 = f243(m, l0, 0ull, 0ull, l6);
     w0 = w0 & 255u;
     w0 = w0 == 0;
     if (w0) goto L0;
@@ -82175,7 +81125,7 @@ static u32 f248(Machine *m, u64 l0, u64 l1, u64 l2, u64 l3, u64 l4, u64 l5, u64 
     w0 = l13 & 1u;
     if (w0) goto L16;
     L18:;
-    w0 = f270(m, l0, l9, l17, 0ull, l6);
+    w0 = f266(m, l0, l9, l17, 0ull, l6);
     w0 = w0 & 255u;
     w0 = w0 == 0;
     if (w0) goto L16;
@@ -82192,8 +81142,8 @@ static u32 f248(Machine *m, u64 l0, u64 l1, u64 l2, u64 l3, u64 l4, u64 l5, u64 
     return 0u;
 }
 
-/* bech32_near_search::gathering::add_answer::<#ba6812a3a566c182> */
-static u32 f249(Machine *m, u64 l0, u64 l1, u64 l2, u64 l3) {
+/* bech32_near::search::gathering::add_answer::<#ba6812a3a566c182> */
+static u32 f243(Machine *m, u64 l0, u64 l1, u64 l2, u64 l3) {
     u32 l6 = 0, l7 = 0, w0;
     u64 l4 = 0, l5 = 0, l8 = 0, l9 = 0, l10 = 0, l11 = 0, t0, t1;
     FRAME(m, 288u);
@@ -82207,7 +81157,7 @@ static u32 f249(Machine *m, u64 l0, u64 l1, u64 l2, u64 l3) {
     t0 = l0 + t0;
     t0 = I64_LOAD(m, t0);
     l5 = t0;
-    f247(m, l4, l0);
+    f241(m, l4, l0);
     l6 = 1u;
     w0 = I32_LOAD8_U(m, l4);
     if (w0) goto L1;
@@ -82305,7 +81255,7 @@ static u32 f249(Machine *m, u64 l0, u64 l1, u64 l2, u64 l3) {
     l2 = t1;
     w0 = t0 != l2;
     if (w0) goto L8;
-    w0 = f241(m, l3);
+    w0 = f231(m, l3);
     w0 = w0 == 0;
     if (w0) goto L2;
     t0 = l3 + 8ull;
@@ -82374,8 +81324,8 @@ static u32 f249(Machine *m, u64 l0, u64 l1, u64 l2, u64 l3) {
     return 0;
 }
 
-/* bech32_near_search::gathering::gather::<#ba6812a3a566c182> */
-static u32 f250(Machine *m, u64 l0, u64 l1, u64 l2, u64 l3) {
+/* bech32_near::search::gathering::gather::<#ba6812a3a566c182> */
+static u32 f244(Machine *m, u64 l0, u64 l1, u64 l2, u64 l3) {
     u32 l6 = 0, l37 = 0, l41 = 0, l42 = 0, l43 = 0, l45 = 0, l46 = 0, w0, w1, w2, w3;
     u64 l4 = 0, l5 = 0, l7 = 0, l8 = 0, l9 = 0, l10 = 0, l11 = 0, l12 = 0, l13 = 0, l14 = 0, l15 = 0, l16 = 0, l17 = 0, l18 = 0, l19 = 0, l20 = 0;
     u64 l21 = 0, l22 = 0, l23 = 0, l24 = 0, l25 = 0, l26 = 0, l27 = 0, l28 = 0, l29 = 0, l30 = 0, l31 = 0, l32 = 0, l33 = 0, l34 = 0, l35 = 0, l36 = 0;
@@ -82398,7 +81348,7 @@ static u32 f250(Machine *m, u64 l0, u64 l1, u64 l2, u64 l3) {
     t0 = t0 >> 1;
     w0 = l1 > t0;
     if (w0) goto L3;
-    w0 = f249(m, l0, l1, l2, l3);
+    w0 = f243(m, l0, l1, l2, l3);
     w0 = w0 & 255u;
     l6 = w0;
     goto L0;
@@ -82407,14 +81357,14 @@ static u32 f250(Machine *m, u64 l0, u64 l1, u64 l2, u64 l3) {
     if (w0) goto L4;
     w0 = l4 == 0;
     if (w0) goto L6;
-    w0 = f249(m, l0, 0ull, 0ull, l3);
+    w0 = f243(m, l0, 0ull, 0ull, l3);
     w0 = w0 & 255u;
     w0 = w0 == 0;
     if (w0) goto L5;
     goto L1;
     L6:;
     t0 = l0 + 120ull;
-    w0 = f144(m, t0);
+    w0 = f145(m, t0);
     w0 = w0 == 0;
     if (w0) goto L5;
     t0 = l6 ? 32ull : 72ull;
@@ -82429,7 +81379,7 @@ static u32 f250(Machine *m, u64 l0, u64 l1, u64 l2, u64 l3) {
     l4 = t1;
     w0 = t0 != l4;
     if (w0) goto L7;
-    w0 = f241(m, l3);
+    w0 = f231(m, l3);
     w0 = w0 == 0;
     if (w0) goto L1;
     t0 = l3 + 8ull;
@@ -82605,97 +81555,97 @@ static u32 f250(Machine *m, u64 l0, u64 l1, u64 l2, u64 l3) {
     if (w0) goto L16;
     L17:;
     l6 = 1u;
-    w0 = f270(m, l0, l1, 1u, l10, l3);
+    w0 = f266(m, l0, l1, 1u, l10, l3);
     w0 = w0 & 255u;
     if (w0) goto L0;
-    w0 = f270(m, l0, l1, 2u, l10, l3);
+    w0 = f266(m, l0, l1, 2u, l10, l3);
     w0 = w0 & 255u;
     if (w0) goto L0;
-    w0 = f270(m, l0, l1, 3u, l10, l3);
+    w0 = f266(m, l0, l1, 3u, l10, l3);
     w0 = w0 & 255u;
     if (w0) goto L0;
-    w0 = f270(m, l0, l1, 4u, l10, l3);
+    w0 = f266(m, l0, l1, 4u, l10, l3);
     w0 = w0 & 255u;
     if (w0) goto L0;
-    w0 = f270(m, l0, l1, 5u, l10, l3);
+    w0 = f266(m, l0, l1, 5u, l10, l3);
     w0 = w0 & 255u;
     if (w0) goto L0;
-    w0 = f270(m, l0, l1, 6u, l10, l3);
+    w0 = f266(m, l0, l1, 6u, l10, l3);
     w0 = w0 & 255u;
     if (w0) goto L0;
-    w0 = f270(m, l0, l1, 7u, l10, l3);
+    w0 = f266(m, l0, l1, 7u, l10, l3);
     w0 = w0 & 255u;
     if (w0) goto L0;
-    w0 = f270(m, l0, l1, 8u, l10, l3);
+    w0 = f266(m, l0, l1, 8u, l10, l3);
     w0 = w0 & 255u;
     if (w0) goto L0;
-    w0 = f270(m, l0, l1, 9u, l10, l3);
+    w0 = f266(m, l0, l1, 9u, l10, l3);
     w0 = w0 & 255u;
     if (w0) goto L0;
-    w0 = f270(m, l0, l1, 10u, l10, l3);
+    w0 = f266(m, l0, l1, 10u, l10, l3);
     w0 = w0 & 255u;
     if (w0) goto L0;
-    w0 = f270(m, l0, l1, 11u, l10, l3);
+    w0 = f266(m, l0, l1, 11u, l10, l3);
     w0 = w0 & 255u;
     if (w0) goto L0;
-    w0 = f270(m, l0, l1, 12u, l10, l3);
+    w0 = f266(m, l0, l1, 12u, l10, l3);
     w0 = w0 & 255u;
     if (w0) goto L0;
-    w0 = f270(m, l0, l1, 13u, l10, l3);
+    w0 = f266(m, l0, l1, 13u, l10, l3);
     w0 = w0 & 255u;
     if (w0) goto L0;
-    w0 = f270(m, l0, l1, 14u, l10, l3);
+    w0 = f266(m, l0, l1, 14u, l10, l3);
     w0 = w0 & 255u;
     if (w0) goto L0;
-    w0 = f270(m, l0, l1, 15u, l10, l3);
+    w0 = f266(m, l0, l1, 15u, l10, l3);
     w0 = w0 & 255u;
     if (w0) goto L0;
-    w0 = f270(m, l0, l1, 16u, l10, l3);
+    w0 = f266(m, l0, l1, 16u, l10, l3);
     w0 = w0 & 255u;
     if (w0) goto L0;
-    w0 = f270(m, l0, l1, 17u, l10, l3);
+    w0 = f266(m, l0, l1, 17u, l10, l3);
     w0 = w0 & 255u;
     if (w0) goto L0;
-    w0 = f270(m, l0, l1, 18u, l10, l3);
+    w0 = f266(m, l0, l1, 18u, l10, l3);
     w0 = w0 & 255u;
     if (w0) goto L0;
-    w0 = f270(m, l0, l1, 19u, l10, l3);
+    w0 = f266(m, l0, l1, 19u, l10, l3);
     w0 = w0 & 255u;
     if (w0) goto L0;
-    w0 = f270(m, l0, l1, 20u, l10, l3);
+    w0 = f266(m, l0, l1, 20u, l10, l3);
     w0 = w0 & 255u;
     if (w0) goto L0;
-    w0 = f270(m, l0, l1, 21u, l10, l3);
+    w0 = f266(m, l0, l1, 21u, l10, l3);
     w0 = w0 & 255u;
     if (w0) goto L0;
-    w0 = f270(m, l0, l1, 22u, l10, l3);
+    w0 = f266(m, l0, l1, 22u, l10, l3);
     w0 = w0 & 255u;
     if (w0) goto L0;
-    w0 = f270(m, l0, l1, 23u, l10, l3);
+    w0 = f266(m, l0, l1, 23u, l10, l3);
     w0 = w0 & 255u;
     if (w0) goto L0;
-    w0 = f270(m, l0, l1, 24u, l10, l3);
+    w0 = f266(m, l0, l1, 24u, l10, l3);
     w0 = w0 & 255u;
     if (w0) goto L0;
-    w0 = f270(m, l0, l1, 25u, l10, l3);
+    w0 = f266(m, l0, l1, 25u, l10, l3);
     w0 = w0 & 255u;
     if (w0) goto L0;
-    w0 = f270(m, l0, l1, 26u, l10, l3);
+    w0 = f266(m, l0, l1, 26u, l10, l3);
     w0 = w0 & 255u;
     if (w0) goto L0;
-    w0 = f270(m, l0, l1, 27u, l10, l3);
+    w0 = f266(m, l0, l1, 27u, l10, l3);
     w0 = w0 & 255u;
     if (w0) goto L0;
-    w0 = f270(m, l0, l1, 28u, l10, l3);
+    w0 = f266(m, l0, l1, 28u, l10, l3);
     w0 = w0 & 255u;
     if (w0) goto L0;
-    w0 = f270(m, l0, l1, 29u, l10, l3);
+    w0 = f266(m, l0, l1, 29u, l10, l3);
     w0 = w0 & 255u;
     if (w0) goto L0;
-    w0 = f270(m, l0, l1, 30u, l10, l3);
+    w0 = f266(m, l0, l1, 30u, l10, l3);
     w0 = w0 & 255u;
     if (w0) goto L0;
-    w0 = f270(m, l0, l1, 31u, l10, l3);
+    w0 = f266(m, l0, l1, 31u, l10, l3);
     w0 = w0 & 255u;
     if (w0) goto L0;
     goto L10;
@@ -82725,7 +81675,7 @@ static u32 f250(Machine *m, u64 l0, u64 l1, u64 l2, u64 l3) {
     t1 = I64_LOAD(m, t1);
     t2 = I64_LOAD(m, l7);
     l7 = t2;
-    f268(m, t0, t1, l39, l7);
+    f262(m, t0, t1, l39, l7);
     w0 = I32_LOAD8_U(m, l5 + 264u);
     if (w0) goto L1;
     w0 = I32_LOAD8_U(m, l5 + 272u);
@@ -82742,7 +81692,7 @@ static u32 f250(Machine *m, u64 l0, u64 l1, u64 l2, u64 l3) {
     w0 = t0 != t1;
     if (w0) goto L36;
     t0 = l5 + 352ull;
-    w0 = f253(m, t0);
+    w0 = f247(m, t0);
     l37 = w0;
     w0 = I32_LOAD8_U(m, l5 + 352u);
     l6 = w0;
@@ -82862,7 +81812,7 @@ static u32 f250(Machine *m, u64 l0, u64 l1, u64 l2, u64 l3) {
     w0 = l4 < l7;
     t2 = w0 ? t2 : l7;
     l4 = t2;
-    f233(m, t0, l8, t1, l9, l4);
+    f228(m, t0, l8, t1, l9, l4);
     w0 = I32_LOAD8_U(m, l5 + 720u);
     if (w0) goto L44;
     l6 = 1u;
@@ -82921,7 +81871,7 @@ static u32 f250(Machine *m, u64 l0, u64 l1, u64 l2, u64 l3) {
     t1 = I64_LOAD(m, l5 + 864u);
     l9 = t1;
     t1 = l37 ? l9 : l32;
-    f234(m, t0, l8, 1537u, t1, l7);
+    f229(m, t0, l8, 1537u, t1, l7);
     t0 = I64_LOAD(m, l30);
     I64_STORE(m, l5 + 688u, t0);
     t0 = I64_LOAD(m, l30 + 8u);
@@ -83163,7 +82113,7 @@ static u32 f250(Machine *m, u64 l0, u64 l1, u64 l2, u64 l3) {
     l7 = t0;
     L73:;
     t0 = l5 + 1904ull;
-    w0 = f262(m, t0, l7, l37);
+    w0 = f256(m, t0, l7, l37);
     l42 = w0;
     w0 = I32_LOAD8_U(m, l5 + 1904u);
     l37 = w0;
@@ -83187,7 +82137,7 @@ static u32 f250(Machine *m, u64 l0, u64 l1, u64 l2, u64 l3) {
     t0 = I64_LOAD(m, l16);
     I64_STORE(m, l5 + 1480u, t0);
     t0 = l5 + 1480ull;
-    f264(m, t0);
+    f258(m, t0);
     L76:;
     l37 = 0u;
     MEMORY_FILL(m, l25, 0u, 144ull);
@@ -83700,7 +82650,7 @@ static u32 f250(Machine *m, u64 l0, u64 l1, u64 l2, u64 l3) {
     I64_STORE(m, l5 + 1816u, l9);
     t0 = l5 + 1904ull;
     t1 = l5 + 1768ull;
-    f259(m, t0, l8, t1, l9);
+    f253(m, t0, l8, t1, l9);
     w0 = I32_LOAD8_U(m, l5 + 1904u);
     if (w0) goto L98;
     w0 = I32_LOAD8_U(m, l5 + 1912u);
@@ -83755,7 +82705,7 @@ static u32 f250(Machine *m, u64 l0, u64 l1, u64 l2, u64 l3) {
     w0 = w0 != 1u;
     if (w0) goto L102;
     t0 = l5 + 1904ull;
-    f260(m, t0, l8, l39, l7, l24);
+    f254(m, t0, l8, l39, l7, l24);
     w0 = I32_LOAD8_U(m, l5 + 1904u);
     if (w0) goto L104;
     w0 = I32_LOAD8_U(m, l5 + 1912u);
@@ -83772,7 +82722,7 @@ static u32 f250(Machine *m, u64 l0, u64 l1, u64 l2, u64 l3) {
     t0 = l5 + 1328ull;
     t1 = l5 + 856ull;
     t2 = l5 + 816ull;
-    f261(m, t0, l8, l4, l11, t1, t2);
+    f255(m, t0, l8, l4, l11, t1, t2);
     w0 = I32_LOAD8_U(m, l5 + 1344u);
     l37 = w0;
     w0 = I32_LOAD8_U(m, l5 + 1336u);
@@ -83932,7 +82882,7 @@ static u32 f250(Machine *m, u64 l0, u64 l1, u64 l2, u64 l3) {
     I64_STORE(m, l5 + 128u, l4);
     MEMORY_COPY(m, l15, l5, 128ull);
     t0 = l5 + 128ull;
-    w0 = f275(m, t0, l38, l10, l1, l3);
+    w0 = f269(m, t0, l38, l10, l1, l3);
     l6 = w0;
     w0 = l4 != 1ull;
     t0 = I64_LOAD(m, l5 + 152u);
@@ -84022,7 +82972,7 @@ static u32 f250(Machine *m, u64 l0, u64 l1, u64 l2, u64 l3) {
 }
 
 /* bech32_correction::corrector::Corrector::without_error::<#ba6812a3a566c182> */
-static void f251(Machine *m, u64 l0, u64 l1, u64 l2, u32 l3) {
+static void f245(Machine *m, u64 l0, u64 l1, u64 l2, u32 l3) {
     u32 l5 = 0, w0;
     u64 l4 = 0, l6 = 0, l7 = 0, l8 = 0, l9 = 0, l10 = 0, l11 = 0, l12 = 0, t0, t1;
     FRAME(m, 272u);
@@ -84068,7 +83018,7 @@ static void f251(Machine *m, u64 l0, u64 l1, u64 l2, u32 l3) {
     L2:;
     t0 = l4 + 184ull;
     t1 = I64_LOAD(m, l8);
-    f268(m, t0, l6, l7, t1);
+    f262(m, t0, l6, l7, t1);
     t0 = I64_LOAD(m, l4 + 232u);
     I64_STORE(m, l4 + 144u, t0);
     t0 = I64_LOAD(m, l4 + 240u);
@@ -84117,7 +83067,7 @@ static void f251(Machine *m, u64 l0, u64 l1, u64 l2, u32 l3) {
     L6:;
     t0 = l4 + 184ull;
     t1 = I64_LOAD(m, l12);
-    f267(m, t0, l10, l11, t1);
+    f261(m, t0, l10, l11, t1);
     t0 = I64_LOAD(m, l4 + 200u);
     I64_STORE(m, l4 + 112u, t0);
     t0 = I64_LOAD(m, l4 + 208u);
@@ -84214,7 +83164,7 @@ static void f251(Machine *m, u64 l0, u64 l1, u64 l2, u32 l3) {
     w0 = l5 == 0;
     if (w0) goto L10;
     t0 = l1 + 120ull;
-    f228(m, l4, t0, l2, l3);
+    f223(m, l4, t0, l2, l3);
     t0 = l0 + 8ull;
     I64_STORE(m, t0, l12);
     I32_STORE8(m, l0, 0u);
@@ -84320,8 +83270,8 @@ static void f251(Machine *m, u64 l0, u64 l1, u64 l2, u32 l3) {
     m->stack_pointer = t0;
 }
 
-/* bech32_near_search::gathering::push_with::<#ba6812a3a566c182> */
-static u32 f252(Machine *m, u64 l0, u32 l1, u64 l2, u64 l3, u32 l4, u64 l5) {
+/* bech32_near::search::gathering::push_with::<#ba6812a3a566c182> */
+static u32 f246(Machine *m, u64 l0, u32 l1, u64 l2, u64 l3, u32 l4, u64 l5) {
     u32 w0;
     u64 l7 = 0, l8 = 0, l9 = 0, l10 = 0, l11 = 0, t0, t1, t2;
     t0 = I64_LOAD(m, l2 + 24u);
@@ -84338,7 +83288,7 @@ static u32 f252(Machine *m, u64 l0, u32 l1, u64 l2, u64 l3, u32 l4, u64 l5) {
     t0 = w0 ? 16ull : 64ull;
     t0 = l0 + t0;
     t0 = I64_LOAD(m, t0);
-    w0 = f273(m, l10, l9, t0, l3, l4, l5);
+    w0 = f267(m, l10, l9, t0, l3, l4, l5);
     w0 = w0 & 255u;
     if (w0) goto L2;
     w0 = l9 == 0;
@@ -84589,7 +83539,7 @@ static u32 f252(Machine *m, u64 l0, u32 l1, u64 l2, u64 l3, u32 l4, u64 l5) {
 }
 
 /* smallvec::small_vec::SmallVec::reserve_one::<#5ac47d93d54b6afe> */
-static u32 f253(Machine *m, u64 l0) {
+static u32 f247(Machine *m, u64 l0) {
     u32 l2 = 0, l5 = 0, w0;
     u64 l1 = 0, l3 = 0, l4 = 0, l6 = 0, l7 = 0, l8 = 0, l9 = 0, l10 = 0, l11 = 0, l12 = 0, l13 = 0, l14 = 0, t0, t1, t2;
     FRAME(m, 192u);
@@ -84797,7 +83747,7 @@ static u32 f253(Machine *m, u64 l0) {
     t0 = l1 + 184ull;
     I64_STORE(m, l1 + 152u, t0);
     t0 = l1 + 152ull;
-    w0 = f254(m, t0, l6);
+    w0 = f248(m, t0, l6);
     w0 = w0 & 255u;
     if (w0) goto L15;
     t0 = l0 + 8ull;
@@ -84998,7 +83948,7 @@ static u32 f253(Machine *m, u64 l0) {
     L22:;
     t0 = l0 + 8ull;
     t1 = l6 - l3;
-    w0 = f254(m, t0, t1);
+    w0 = f248(m, t0, t1);
     w0 = w0 & 255u;
     l5 = w0;
     L3:;
@@ -85010,7 +83960,7 @@ static u32 f253(Machine *m, u64 l0) {
 }
 
 /* std_alloc::vec::Vec::reserve_exact::<#e2f0d7372b6619e3> */
-static u32 f254(Machine *m, u64 l0, u64 l1) {
+static u32 f248(Machine *m, u64 l0, u64 l1) {
     u32 l3 = 0, l7 = 0, l10 = 0, w0;
     u64 l2 = 0, l4 = 0, l5 = 0, l6 = 0, l8 = 0, l9 = 0, t0, t1;
     FRAME(m, 32u);
@@ -85043,7 +83993,7 @@ static u32 f254(Machine *m, u64 l0, u64 l1) {
     if (w0) goto L3;
     t0 = l2 + 16ull;
     t1 = I64_LOAD(m, l0);
-    f194(m, t0, l6, t1, l5, l4, l1);
+    f189(m, t0, l6, t1, l5, l4, l1);
     t0 = I64_LOAD(m, l2 + 24u);
     l5 = t0;
     w0 = I32_LOAD8_U(m, l2 + 16u);
@@ -85077,7 +84027,7 @@ static u32 f254(Machine *m, u64 l0, u64 l1) {
     l10 = 1u;
     goto L4;
     L5:;
-    f162(m, l2, l4, l5, 8ull);
+    f158(m, l2, l4, l5, 8ull);
     t0 = I64_LOAD(m, l2 + 8u);
     l5 = t0;
     w0 = I32_LOAD8_U(m, l2);
@@ -85117,7 +84067,7 @@ static u32 f254(Machine *m, u64 l0, u64 l1) {
 }
 
 /* smallvec::small_vec::SmallVec::reserve_one::<#e844ebde50da120a> */
-static u32 f255(Machine *m, u64 l0) {
+static u32 f249(Machine *m, u64 l0) {
     u32 l3 = 0, l5 = 0, w0;
     u64 l1 = 0, l2 = 0, l4 = 0, l6 = 0, l7 = 0, l8 = 0, l9 = 0, l10 = 0, l11 = 0, l12 = 0, l13 = 0, t0, t1, t2;
     FRAME(m, 80u);
@@ -85326,7 +84276,7 @@ static u32 f255(Machine *m, u64 l0) {
     t0 = l2 + 79ull;
     I64_STORE(m, l2 + 40u, t0);
     t0 = l2 + 40ull;
-    w0 = f256(m, t0, l6);
+    w0 = f250(m, t0, l6);
     w0 = w0 & 255u;
     if (w0) goto L12;
     t0 = l0 + 8ull;
@@ -85479,7 +84429,7 @@ static u32 f255(Machine *m, u64 l0) {
     L19:;
     t0 = l0 + 8ull;
     t1 = l6 - l1;
-    w0 = f256(m, t0, t1);
+    w0 = f250(m, t0, t1);
     w0 = w0 & 255u;
     l5 = w0;
     L3:;
@@ -85491,7 +84441,7 @@ static u32 f255(Machine *m, u64 l0) {
 }
 
 /* std_alloc::vec::Vec::reserve_exact::<#dcf18aae16672a16> */
-static u32 f256(Machine *m, u64 l0, u64 l1) {
+static u32 f250(Machine *m, u64 l0, u64 l1) {
     u32 l3 = 0, l7 = 0, l10 = 0, w0;
     u64 l2 = 0, l4 = 0, l5 = 0, l6 = 0, l8 = 0, l9 = 0, t0, t1;
     FRAME(m, 32u);
@@ -85524,7 +84474,7 @@ static u32 f256(Machine *m, u64 l0, u64 l1) {
     if (w0) goto L3;
     t0 = l2 + 16ull;
     t1 = I64_LOAD(m, l0);
-    f197(m, t0, l6, t1, l5, l4, l1);
+    f192(m, t0, l6, t1, l5, l4, l1);
     t0 = I64_LOAD(m, l2 + 24u);
     l5 = t0;
     w0 = I32_LOAD8_U(m, l2 + 16u);
@@ -85557,7 +84507,7 @@ static u32 f256(Machine *m, u64 l0, u64 l1) {
     l10 = 1u;
     goto L4;
     L5:;
-    f162(m, l2, l4, l5, 1ull);
+    f158(m, l2, l4, l5, 1ull);
     t0 = I64_LOAD(m, l2 + 8u);
     l5 = t0;
     w0 = I32_LOAD8_U(m, l2);
@@ -85597,7 +84547,7 @@ static u32 f256(Machine *m, u64 l0, u64 l1) {
 }
 
 /* std_alloc::vec::Vec::drop::<#24f4eee37ea20870> */
-static void f257(Machine *m, u64 l0) {
+static void f251(Machine *m, u64 l0) {
     u32 w0;
     u64 l1 = 0, l2 = 0, l3 = 0, t0, t1, t2;
     t0 = I64_LOAD(m, l0 + 16u);
@@ -85639,7 +84589,7 @@ static void f257(Machine *m, u64 l0) {
 }
 
 /* smallvec::small_vec::SmallVec::reserve_one::<#1323e87ca9486416> */
-static u32 f258(Machine *m, u64 l0) {
+static u32 f252(Machine *m, u64 l0) {
     u32 l3 = 0, l5 = 0, w0;
     u64 l1 = 0, l2 = 0, l4 = 0, l6 = 0, l7 = 0, l8 = 0, l9 = 0, l10 = 0, l11 = 0, l12 = 0, l13 = 0, l14 = 0, l15 = 0, l16 = 0, t0, t1;
     u64 t2;
@@ -85865,7 +84815,7 @@ static u32 f258(Machine *m, u64 l0) {
     t0 = l2 + 296ull;
     I64_STORE(m, l2 + 264u, t0);
     t0 = l2 + 264ull;
-    w0 = f263(m, t0, l6);
+    w0 = f257(m, t0, l6);
     w0 = w0 & 255u;
     if (w0) goto L15;
     t0 = l0 + 8ull;
@@ -86098,7 +85048,7 @@ static u32 f258(Machine *m, u64 l0) {
     L22:;
     t0 = l0 + 8ull;
     t1 = l6 - l1;
-    w0 = f263(m, t0, t1);
+    w0 = f257(m, t0, t1);
     w0 = w0 & 255u;
     l5 = w0;
     L3:;
@@ -86110,7 +85060,7 @@ static u32 f258(Machine *m, u64 l0) {
 }
 
 /* bech32_bch::short_vec::ShortVec::from_slice::<#515bacca24e27643> */
-static void f259(Machine *m, u64 l0, u64 l1, u64 l2, u64 l3) {
+static void f253(Machine *m, u64 l0, u64 l1, u64 l2, u64 l3) {
     u32 l6 = 0, l8 = 0, l9 = 0, w0;
     u64 l4 = 0, l5 = 0, l7 = 0, l10 = 0, t0, t1, t2;
     FRAME(m, 144u);
@@ -86147,7 +85097,7 @@ static void f259(Machine *m, u64 l0, u64 l1, u64 l2, u64 l3) {
     w0 = t0 != t1;
     if (w0) goto L6;
     t0 = l4 + 8ull;
-    w0 = f258(m, t0);
+    w0 = f252(m, t0);
     l9 = w0;
     w0 = I32_LOAD8_U(m, l4 + 8u);
     l8 = w0;
@@ -86246,7 +85196,7 @@ static void f259(Machine *m, u64 l0, u64 l1, u64 l2, u64 l3) {
 }
 
 /* bech32_finders::erased::listing_of::<#b6060419b250a926> */
-static void f260(Machine *m, u64 l0, u64 l1, u64 l2, u64 l3, u64 l4) {
+static void f254(Machine *m, u64 l0, u64 l1, u64 l2, u64 l3, u64 l4) {
     u32 l7 = 0, l9 = 0, l10 = 0, w0;
     u64 l5 = 0, l6 = 0, l8 = 0, l11 = 0, t0, t1, t2;
     FRAME(m, 144u);
@@ -86284,7 +85234,7 @@ static void f260(Machine *m, u64 l0, u64 l1, u64 l2, u64 l3, u64 l4) {
     w0 = t0 != t1;
     if (w0) goto L6;
     t0 = l5 + 8ull;
-    w0 = f258(m, t0);
+    w0 = f252(m, t0);
     l10 = w0;
     w0 = I32_LOAD8_U(m, l5 + 8u);
     l9 = w0;
@@ -86386,7 +85336,7 @@ static void f260(Machine *m, u64 l0, u64 l1, u64 l2, u64 l3, u64 l4) {
 }
 
 /* bech32_finders::correction::correct_by_roots::<#ba6812a3a566c182> */
-static void f261(Machine *m, u64 l0, u64 l1, u64 l2, u64 l3, u64 l4, u64 l5) {
+static void f255(Machine *m, u64 l0, u64 l1, u64 l2, u64 l3, u64 l4, u64 l5) {
     u32 l7 = 0, w0;
     u64 l6 = 0, l8 = 0, t0, t1, t2;
     FRAME(m, 448u);
@@ -86405,7 +85355,7 @@ static void f261(Machine *m, u64 l0, u64 l1, u64 l2, u64 l3, u64 l4, u64 l5) {
     I64_STORE(m, l6 + 136u, 1537ull);
     t0 = l6 + 160ull;
     t1 = l6 + 136ull;
-    f265(m, t0, l1, t1, l2, l3, l4, l5);
+    f259(m, t0, l1, t1, l2, l3, l4, l5);
     w0 = I32_LOAD8_U(m, l6 + 160u);
     if (w0) goto L5;
     w0 = I32_LOAD8_U(m, l6 + 168u);
@@ -86506,7 +85456,7 @@ static void f261(Machine *m, u64 l0, u64 l1, u64 l2, u64 l3, u64 l4, u64 l5) {
 }
 
 /* bech32_bch::short_vec::ShortVec::push::<#4e9cceda2f49e33f> */
-static u32 f262(Machine *m, u64 l0, u64 l1, u32 l2) {
+static u32 f256(Machine *m, u64 l0, u64 l1, u32 l2) {
     u32 l4 = 0, w0;
     u64 l5 = 0, l6 = 0, l7 = 0, t0, t1;
     w0 = I32_LOAD8_U(m, l0);
@@ -86526,7 +85476,7 @@ static u32 f262(Machine *m, u64 l0, u64 l1, u32 l2) {
     w0 = l5 != l6;
     if (w0) goto L4;
     l4 = 1u;
-    w0 = f258(m, l0);
+    w0 = f252(m, l0);
     w0 = w0 & 255u;
     if (w0) goto L3;
     w0 = I32_LOAD8_U(m, l0);
@@ -86573,7 +85523,7 @@ static u32 f262(Machine *m, u64 l0, u64 l1, u32 l2) {
 }
 
 /* std_alloc::vec::Vec::reserve_exact::<#734d440ca47efe22> */
-static u32 f263(Machine *m, u64 l0, u64 l1) {
+static u32 f257(Machine *m, u64 l0, u64 l1) {
     u32 l3 = 0, l7 = 0, l10 = 0, w0;
     u64 l2 = 0, l4 = 0, l5 = 0, l6 = 0, l8 = 0, l9 = 0, t0, t1;
     FRAME(m, 32u);
@@ -86606,7 +85556,7 @@ static u32 f263(Machine *m, u64 l0, u64 l1) {
     if (w0) goto L3;
     t0 = l2 + 16ull;
     t1 = I64_LOAD(m, l0);
-    f205(m, t0, l6, t1, l5, l4, l1);
+    f200(m, t0, l6, t1, l5, l4, l1);
     t0 = I64_LOAD(m, l2 + 24u);
     l5 = t0;
     w0 = I32_LOAD8_U(m, l2 + 16u);
@@ -86640,7 +85590,7 @@ static u32 f263(Machine *m, u64 l0, u64 l1) {
     l10 = 1u;
     goto L4;
     L5:;
-    f162(m, l2, l4, l5, 8ull);
+    f158(m, l2, l4, l5, 8ull);
     t0 = I64_LOAD(m, l2 + 8u);
     l5 = t0;
     w0 = I32_LOAD8_U(m, l2);
@@ -86680,7 +85630,7 @@ static u32 f263(Machine *m, u64 l0, u64 l1) {
 }
 
 /* std_alloc::vec::Vec::drop::<#9067a3c63d57c5be> */
-static void f264(Machine *m, u64 l0) {
+static void f258(Machine *m, u64 l0) {
     u32 w0;
     u64 l1 = 0, l2 = 0, l3 = 0, t0, t1, t2;
     t0 = I64_LOAD(m, l0 + 16u);
@@ -86721,8 +85671,8 @@ static void f264(Machine *m, u64 l0) {
     return;
 }
 
-/* bech32_bch::decoder::candidate::<#968050e60df0206f> */
-static void f265(Machine *m, u64 l0, u64 l1, u64 l2, u64 l3, u64 l4, u64 l5, u64 l6) {
+/* bech32_bch::decoder::decode_errors::<#968050e60df0206f> */
+static void f259(Machine *m, u64 l0, u64 l1, u64 l2, u64 l3, u64 l4, u64 l5, u64 l6) {
     u32 l10 = 0, l11 = 0, l12 = 0, l15 = 0, l17 = 0, l20 = 0, l21 = 0, l22 = 0, l23 = 0, l27 = 0, l29 = 0, l33 = 0, l35 = 0, l37 = 0, l39 = 0, w0;
     u32 w1, w2, w3;
     u64 l7 = 0, l8 = 0, l9 = 0, l13 = 0, l14 = 0, l16 = 0, l18 = 0, l19 = 0, l24 = 0, l25 = 0, l26 = 0, l28 = 0, l30 = 0, l31 = 0, l32 = 0, l34 = 0;
@@ -86980,7 +85930,7 @@ static void f265(Machine *m, u64 l0, u64 l1, u64 l2, u64 l3, u64 l4, u64 l5, u64
     w0 = t0 != t1;
     if (w0) goto L26;
     t0 = l7 + 1112ull;
-    w0 = f255(m, t0);
+    w0 = f249(m, t0);
     l21 = w0;
     w0 = I32_LOAD8_U(m, l7 + 1112u);
     l10 = w0;
@@ -87139,7 +86089,7 @@ static void f265(Machine *m, u64 l0, u64 l1, u64 l2, u64 l3, u64 l4, u64 l5, u64
     I64_STORE(m, l7 + 1144u, 0ull);
     I64_STORE(m, l7 + 1152u, 0ull);
     t0 = l7 + 1112ull;
-    f266(m, t0, l1, l4, l2, l18, l16);
+    f260(m, t0, l1, l4, l2, l18, l16);
     w0 = I32_LOAD8_U(m, l7 + 1112u);
     if (w0) goto L2;
     t0 = l2 - l14;
@@ -87411,7 +86361,7 @@ static void f265(Machine *m, u64 l0, u64 l1, u64 l2, u64 l3, u64 l4, u64 l5, u64
     w0 = t0 != t1;
     if (w0) goto L45;
     t0 = l7 + 1288ull;
-    w0 = f255(m, t0);
+    w0 = f249(m, t0);
     l20 = w0;
     w0 = I32_LOAD8_U(m, l7 + 1288u);
     l12 = w0;
@@ -87458,7 +86408,7 @@ static void f265(Machine *m, u64 l0, u64 l1, u64 l2, u64 l3, u64 l4, u64 l5, u64
     w0 = t0 != t1;
     if (w0) goto L50;
     t0 = l7 + 1288ull;
-    w0 = f255(m, t0);
+    w0 = f249(m, t0);
     l21 = w0;
     w0 = I32_LOAD8_U(m, l7 + 1288u);
     l12 = w0;
@@ -87947,7 +86897,7 @@ static void f265(Machine *m, u64 l0, u64 l1, u64 l2, u64 l3, u64 l4, u64 l5, u64
     l38 = t2;
     t2 = I64_LOAD(m, l7 + 616u);
     t2 = l12 ? l38 : t2;
-    f267(m, t0, l1, t1, t2);
+    f261(m, t0, l1, t1, t2);
     w0 = I32_LOAD8_U(m, l7 + 904u);
     if (w0) goto L71;
     w0 = I32_LOAD8_U(m, l7 + 912u);
@@ -87990,7 +86940,7 @@ static void f265(Machine *m, u64 l0, u64 l1, u64 l2, u64 l3, u64 l4, u64 l5, u64
     w0 = t0 != t1;
     if (w0) goto L75;
     t0 = l7 + 1416ull;
-    w0 = f255(m, t0);
+    w0 = f249(m, t0);
     l20 = w0;
     w0 = I32_LOAD8_U(m, l7 + 1416u);
     l12 = w0;
@@ -88140,7 +87090,7 @@ static void f265(Machine *m, u64 l0, u64 l1, u64 l2, u64 l3, u64 l4, u64 l5, u64
     w0 = l6 != t0;
     if (w0) goto L86;
     t0 = l7 + 1112ull;
-    w0 = f253(m, t0);
+    w0 = f247(m, t0);
     w0 = w0 & 255u;
     w0 = w0 == 0;
     if (w0) goto L87;
@@ -88563,7 +87513,7 @@ static void f265(Machine *m, u64 l0, u64 l1, u64 l2, u64 l3, u64 l4, u64 l5, u64
     w0 = t0 != t1;
     if (w0) goto L117;
     t0 = l7 + 1112ull;
-    w0 = f253(m, t0);
+    w0 = f247(m, t0);
     w0 = w0 & 255u;
     if (w0) goto L105;
     w0 = I32_LOAD8_U(m, l7 + 1112u);
@@ -88616,7 +87566,7 @@ static void f265(Machine *m, u64 l0, u64 l1, u64 l2, u64 l3, u64 l4, u64 l5, u64
     w0 = t0 != t1;
     if (w0) goto L121;
     t0 = l7 + 1112ull;
-    w0 = f253(m, t0);
+    w0 = f247(m, t0);
     w0 = w0 & 255u;
     if (w0) goto L105;
     w0 = I32_LOAD8_U(m, l7 + 1112u);
@@ -88953,7 +87903,7 @@ static void f265(Machine *m, u64 l0, u64 l1, u64 l2, u64 l3, u64 l4, u64 l5, u64
     t0 = I64_LOAD(m, l7 + 408u);
     I64_STORE(m, l7 + 48u, t0);
     t0 = l7 + 48ull;
-    f257(m, t0);
+    f251(m, t0);
     L138:;
     I32_STORE8(m, l0, 0u);
     t0 = l0 + 8ull;
@@ -89002,7 +87952,7 @@ static void f265(Machine *m, u64 l0, u64 l1, u64 l2, u64 l3, u64 l4, u64 l5, u64
     t0 = l7 + 1112ull;
     MEMORY_FILL(m, t0, 0u, 88ull);
     t0 = l7 + 1112ull;
-    f268(m, t0, l1, l2, l16);
+    f262(m, t0, l1, l2, l16);
     w0 = I32_LOAD8_U(m, l7 + 1112u);
     if (w0) goto L149;
     w0 = I32_LOAD8_U(m, l7 + 1120u);
@@ -89035,7 +87985,7 @@ static void f265(Machine *m, u64 l0, u64 l1, u64 l2, u64 l3, u64 l4, u64 l5, u64
     w0 = t0 != t1;
     if (w0) goto L153;
     t0 = l7 + 1288ull;
-    w0 = f253(m, t0);
+    w0 = f247(m, t0);
     l10 = w0;
     w0 = I32_LOAD8_U(m, l7 + 1288u);
     l12 = w0;
@@ -89107,7 +88057,7 @@ static void f265(Machine *m, u64 l0, u64 l1, u64 l2, u64 l3, u64 l4, u64 l5, u64
     t0 = l7 + 712ull;
     t1 = l12 ? l36 : l4;
     l32 = t1;
-    f234(m, t0, l1, l11, l32, l6);
+    f229(m, t0, l1, l11, l32, l6);
     w0 = I32_LOAD8_U(m, l7 + 712u);
     if (w0) goto L146;
     w0 = I32_LOAD8_U(m, l7 + 720u);
@@ -89245,7 +88195,7 @@ static void f265(Machine *m, u64 l0, u64 l1, u64 l2, u64 l3, u64 l4, u64 l5, u64
     w0 = t0 != t1;
     if (w0) goto L162;
     t0 = l7 + 784ull;
-    w0 = f255(m, t0);
+    w0 = f249(m, t0);
     l20 = w0;
     w0 = I32_LOAD8_U(m, l7 + 784u);
     l12 = w0;
@@ -89499,7 +88449,7 @@ static void f265(Machine *m, u64 l0, u64 l1, u64 l2, u64 l3, u64 l4, u64 l5, u64
     l18 = t1;
     t1 = l12 ? l16 : l2;
     l16 = t1;
-    f266(m, t0, l5, l31, l3, l18, l16);
+    f260(m, t0, l5, l31, l3, l18, l16);
     l20 = 0u;
     l10 = 0u;
     w0 = I32_LOAD8_U(m, l7 + 784u);
@@ -89615,7 +88565,7 @@ static void f265(Machine *m, u64 l0, u64 l1, u64 l2, u64 l3, u64 l4, u64 l5, u64
     w0 = t0 != t1;
     if (w0) goto L181;
     t0 = l7 + 1112ull;
-    w0 = f258(m, t0);
+    w0 = f252(m, t0);
     w0 = w0 & 255u;
     if (w0) goto L144;
     w0 = I32_LOAD8_U(m, l7 + 1112u);
@@ -89903,7 +88853,7 @@ static void f265(Machine *m, u64 l0, u64 l1, u64 l2, u64 l3, u64 l4, u64 l5, u64
     w0 = l17 & 255u;
     w0 = w0 != 1u;
     if (w0) goto L196;
-    f269(m, l34);
+    f263(m, l34);
     L196:;
     w0 = I32_LOAD8_U(m, l7 + 400u);
     w0 = w0 != 1u;
@@ -89917,7 +88867,7 @@ static void f265(Machine *m, u64 l0, u64 l1, u64 l2, u64 l3, u64 l4, u64 l5, u64
     t0 = I64_LOAD(m, l7 + 408u);
     I64_STORE(m, l7 + 16u, t0);
     t0 = l7 + 16ull;
-    f257(m, t0);
+    f251(m, t0);
     L197:;
     I32_STORE8(m, l0, l12);
     t0 = l0 + 16ull;
@@ -89933,7 +88883,7 @@ static void f265(Machine *m, u64 l0, u64 l1, u64 l2, u64 l3, u64 l4, u64 l5, u64
 }
 
 /* bech32_bch::terms::without_terms::<#9344f43d5132a933> */
-static void f266(Machine *m, u64 l0, u64 l1, u64 l2, u64 l3, u64 l4, u64 l5) {
+static void f260(Machine *m, u64 l0, u64 l1, u64 l2, u64 l3, u64 l4, u64 l5) {
     u32 l9 = 0, l10 = 0, l11 = 0, l15 = 0, l18 = 0, l19 = 0, l20 = 0, l21 = 0, l22 = 0, w0, w1;
     u64 l6 = 0, l7 = 0, l8 = 0, l12 = 0, l13 = 0, l14 = 0, l16 = 0, l17 = 0, t0, t1;
     FRAME(m, 96u);
@@ -89949,7 +88899,7 @@ static void f266(Machine *m, u64 l0, u64 l1, u64 l2, u64 l3, u64 l4, u64 l5) {
     I64_STORE(m, l7 + 16u, 0ull);
     I64_STORE(m, l7 + 8u, 0ull);
     t0 = l7 + 8ull;
-    f267(m, t0, l1, l2, l3);
+    f261(m, t0, l1, l2, l3);
     w0 = I32_LOAD8_U(m, l7 + 8u);
     if (w0) goto L2;
     t0 = I64_LOAD8_U(m, l7 + 16u);
@@ -90145,7 +89095,7 @@ static void f266(Machine *m, u64 l0, u64 l1, u64 l2, u64 l3, u64 l4, u64 l5) {
 }
 
 /* bech32_poly::fieldvec::FieldVec::from_slice::<#00a0a1a87223c266> */
-static void f267(Machine *m, u64 l0, u64 l1, u64 l2, u64 l3) {
+static void f261(Machine *m, u64 l0, u64 l1, u64 l2, u64 l3) {
     u32 l6 = 0, l7 = 0, l8 = 0, w0;
     u64 l4 = 0, l5 = 0, t0, t1, t2;
     FRAME(m, 48u);
@@ -90177,7 +89127,7 @@ static void f267(Machine *m, u64 l0, u64 l1, u64 l2, u64 l3) {
     w0 = t0 != t1;
     if (w0) goto L5;
     t0 = l4 + 8ull;
-    w0 = f255(m, t0);
+    w0 = f249(m, t0);
     l8 = w0;
     w0 = I32_LOAD8_U(m, l4 + 8u);
     l7 = w0;
@@ -90287,7 +89237,7 @@ static void f267(Machine *m, u64 l0, u64 l1, u64 l2, u64 l3) {
 }
 
 /* bech32_bch::short_vec::ShortVec::from_slice::<#7c8814189affb0ff> */
-static void f268(Machine *m, u64 l0, u64 l1, u64 l2, u64 l3) {
+static void f262(Machine *m, u64 l0, u64 l1, u64 l2, u64 l3) {
     u32 l6 = 0, l7 = 0, w0;
     u64 l4 = 0, l5 = 0, l8 = 0, t0, t1, t2;
     FRAME(m, 80u);
@@ -90318,7 +89268,7 @@ static void f268(Machine *m, u64 l0, u64 l1, u64 l2, u64 l3) {
     t1 = l6 ? t1 : 7ull;
     w0 = t0 != t1;
     if (w0) goto L6;
-    w0 = f253(m, l4);
+    w0 = f247(m, l4);
     l7 = w0;
     w0 = I32_LOAD8_U(m, l4);
     l6 = w0;
@@ -90409,7 +89359,7 @@ static void f268(Machine *m, u64 l0, u64 l1, u64 l2, u64 l3) {
 }
 
 /* std_alloc::vec::Vec::drop::<#4adb38b426551c1b> */
-static void f269(Machine *m, u64 l0) {
+static void f263(Machine *m, u64 l0) {
     u32 w0;
     u64 l1 = 0, l2 = 0, l3 = 0, t0, t1, t2;
     t0 = I64_LOAD(m, l0 + 16u);
@@ -90450,8 +89400,148 @@ static void f269(Machine *m, u64 l0) {
     return;
 }
 
-/* bech32_near_search::gathering::gather_with::<#ba6812a3a566c182> */
-static u32 f270(Machine *m, u64 l0, u64 l1, u32 l2, u64 l3, u64 l4) {
+/* std_alloc::vec::Vec::drop::<#7a7ab7c711d8bd61> */
+static void f264(Machine *m, u64 l0) {
+    u32 w0;
+    u64 l1 = 0, l2 = 0, l3 = 0, t0, t1, t2;
+    t0 = I64_LOAD(m, l0 + 16u);
+    l1 = t0;
+    w0 = l1 == 0;
+    if (w0) goto L1;
+    t0 = I64_LOAD(m, l0 + 24u);
+    t0 = I64_LOAD(m, t0);
+    l2 = t0;
+    t0 = l2 + 16ull;
+    t0 = I64_LOAD(m, t0);
+    w0 = t0 != 1ull;
+    if (w0) goto L2;
+    t0 = I64_LOAD(m, l0);
+    t1 = l2 + 8ull;
+    t1 = I64_LOAD(m, t1);
+    l0 = t1;
+    t1 = I64_LOAD(m, l0);
+    t2 = l0 + 32ull;
+    l0 = t2;
+    t2 = I64_LOAD(m, l0);
+    l3 = t2;
+    t1 = t1 + l3;
+    w0 = t0 != t1;
+    if (w0) goto L2;
+    t0 = l1 << 4;
+    t0 = l3 + t0;
+    I64_STORE(m, l0, t0);
+    L2:;
+    t0 = l2 + 24ull;
+    l0 = t0;
+    t0 = I64_LOAD(m, l0);
+    t0 = t0 + 18446744073709551615ull;
+    I64_STORE(m, l0, t0);
+    L1:;
+    return;
+    TRAP(m);
+    return;
+}
+
+/* std_alloc::vec::Vec::move_to::<#d420fff15bd3b770> */
+static u32 f265(Machine *m, u64 l0, u64 l1) {
+    u32 l3 = 0, l5 = 0, l10 = 0, w0;
+    u64 l2 = 0, l4 = 0, l6 = 0, l7 = 0, l8 = 0, l9 = 0, t0, t1, t2, t3;
+    FRAME(m, 32u);
+    t0 = m->stack_pointer;
+    t0 = t0 - 32ull;
+    l2 = t0;
+    m->stack_pointer = l2;
+    l3 = 0u;
+    w0 = l1 >= 67818912035696881ull;
+    if (w0) goto L1;
+    t0 = l0 + 16ull;
+    t0 = I64_LOAD(m, t0);
+    l4 = t0;
+    w0 = l4 == 0;
+    if (w0) goto L3;
+    t0 = l2 + 16ull;
+    t1 = l0 + 24ull;
+    t1 = I64_LOAD(m, t1);
+    t2 = I64_LOAD(m, l0);
+    t3 = l0 + 8ull;
+    t3 = I64_LOAD(m, t3);
+    f209(m, t0, t1, t2, t3, l4, l1);
+    t0 = I64_LOAD(m, l2 + 24u);
+    l4 = t0;
+    w0 = I32_LOAD8_U(m, l2 + 16u);
+    l5 = w0;
+    goto L2;
+    L3:;
+    t0 = l1 * 136ull;
+    l4 = t0;
+    t0 = l0 + 24ull;
+    t0 = I64_LOAD(m, t0);
+    t0 = I64_LOAD(m, t0);
+    l6 = t0;
+    t0 = l6 + 16ull;
+    t0 = I64_LOAD(m, t0);
+    w0 = t0 == 0;
+    if (w0) goto L5;
+    t0 = l6 + 8ull;
+    t0 = I64_LOAD(m, t0);
+    l7 = t0;
+    t0 = l7 + 32ull;
+    l8 = t0;
+    t0 = I64_LOAD(m, l8);
+    t0 = t0 & 18446744073709551608ull;
+    l9 = t0;
+    w0 = l9 < l4;
+    if (w0) goto L5;
+    t0 = l9 - l4;
+    l4 = t0;
+    I64_STORE(m, l8, l4);
+    t0 = I64_LOAD(m, l7);
+    t0 = t0 + l4;
+    l4 = t0;
+    l10 = 1u;
+    goto L4;
+    L5:;
+    f158(m, l2, l6, l4, 8ull);
+    t0 = I64_LOAD(m, l2 + 8u);
+    l4 = t0;
+    w0 = I32_LOAD8_U(m, l2);
+    l10 = w0;
+    L4:;
+    l5 = 1u;
+    w0 = l10 & 1u;
+    if (w0) goto L6;
+    l4 = 0ull;
+    goto L2;
+    L6:;
+    t0 = l6 + 24ull;
+    l6 = t0;
+    t0 = I64_LOAD(m, l6);
+    l7 = t0;
+    w0 = l7 != 18446744073709551615ull;
+    if (w0) goto L7;
+    l4 = 0ull;
+    goto L2;
+    L7:;
+    t0 = l7 + 1ull;
+    I64_STORE(m, l6, t0);
+    l5 = 0u;
+    L2:;
+    w0 = l5 & 255u;
+    if (w0) goto L1;
+    t0 = l0 + 16ull;
+    I64_STORE(m, t0, l1);
+    I64_STORE(m, l0, l4);
+    l3 = 1u;
+    L1:;
+    t0 = l2 + 32ull;
+    m->stack_pointer = t0;
+    return l3;
+    TRAP(m);
+    return 0;
+}
+
+/* bech32_near::search::gathering::gather_with::<#ba6812a3a566c182> */
+static u32 f266(Machine *m, u64 l0, u64 l1, u32 l2, u64 l3, u64 l4) {
     u32 l6 = 0, w0, w1;
     u64 l5 = 0, l7 = 0, t0, t1, t2;
     FRAME(m, 368u);
@@ -90460,7 +89550,7 @@ static u32 f270(Machine *m, u64 l0, u64 l1, u32 l2, u64 l3, u64 l4) {
     l5 = t0;
     m->stack_pointer = l5;
     MEMORY_FILL(m, l5, 0u, 168ull);
-    f251(m, l5, l0, l1, l2);
+    f245(m, l5, l0, l1, l2);
     l6 = 1u;
     w0 = I32_LOAD8_U(m, l5);
     if (w0) goto L1;
@@ -90478,10 +89568,10 @@ static u32 f270(Machine *m, u64 l0, u64 l1, u32 l2, u64 l3, u64 l4) {
     I64_STORE(m, l5 + 168u, t0);
     t0 = l5 + 200ull;
     t1 = l5 + 168ull;
-    w0 = f250(m, t0, l3, l1, t1);
+    w0 = f244(m, t0, l3, l1, t1);
     w0 = w0 & 255u;
     t0 = l5 + 168ull;
-    w0 = f252(m, l0, w0, t0, l1, l2, l4);
+    w0 = f246(m, l0, w0, t0, l1, l2, l4);
     l2 = w0;
     w0 = I32_LOAD8_U(m, l5 + 200u);
     w0 = w0 != 1u;
@@ -90634,148 +89724,8 @@ static u32 f270(Machine *m, u64 l0, u64 l1, u32 l2, u64 l3, u64 l4) {
     return 0;
 }
 
-/* std_alloc::vec::Vec::drop::<#38b67895c97ca166> */
-static void f271(Machine *m, u64 l0) {
-    u32 w0;
-    u64 l1 = 0, l2 = 0, l3 = 0, t0, t1, t2;
-    t0 = I64_LOAD(m, l0 + 16u);
-    l1 = t0;
-    w0 = l1 == 0;
-    if (w0) goto L1;
-    t0 = I64_LOAD(m, l0 + 24u);
-    t0 = I64_LOAD(m, t0);
-    l2 = t0;
-    t0 = l2 + 16ull;
-    t0 = I64_LOAD(m, t0);
-    w0 = t0 != 1ull;
-    if (w0) goto L2;
-    t0 = I64_LOAD(m, l0);
-    t1 = l2 + 8ull;
-    t1 = I64_LOAD(m, t1);
-    l0 = t1;
-    t1 = I64_LOAD(m, l0);
-    t2 = l0 + 32ull;
-    l0 = t2;
-    t2 = I64_LOAD(m, l0);
-    l3 = t2;
-    t1 = t1 + l3;
-    w0 = t0 != t1;
-    if (w0) goto L2;
-    t0 = l1 << 4;
-    t0 = l3 + t0;
-    I64_STORE(m, l0, t0);
-    L2:;
-    t0 = l2 + 24ull;
-    l0 = t0;
-    t0 = I64_LOAD(m, l0);
-    t0 = t0 + 18446744073709551615ull;
-    I64_STORE(m, l0, t0);
-    L1:;
-    return;
-    TRAP(m);
-    return;
-}
-
-/* std_alloc::vec::Vec::move_to::<#76dbb03d3435055a> */
-static u32 f272(Machine *m, u64 l0, u64 l1) {
-    u32 l3 = 0, l5 = 0, l10 = 0, w0;
-    u64 l2 = 0, l4 = 0, l6 = 0, l7 = 0, l8 = 0, l9 = 0, t0, t1, t2, t3;
-    FRAME(m, 32u);
-    t0 = m->stack_pointer;
-    t0 = t0 - 32ull;
-    l2 = t0;
-    m->stack_pointer = l2;
-    l3 = 0u;
-    w0 = l1 >= 67818912035696881ull;
-    if (w0) goto L1;
-    t0 = l0 + 16ull;
-    t0 = I64_LOAD(m, t0);
-    l4 = t0;
-    w0 = l4 == 0;
-    if (w0) goto L3;
-    t0 = l2 + 16ull;
-    t1 = l0 + 24ull;
-    t1 = I64_LOAD(m, t1);
-    t2 = I64_LOAD(m, l0);
-    t3 = l0 + 8ull;
-    t3 = I64_LOAD(m, t3);
-    f212(m, t0, t1, t2, t3, l4, l1);
-    t0 = I64_LOAD(m, l2 + 24u);
-    l4 = t0;
-    w0 = I32_LOAD8_U(m, l2 + 16u);
-    l5 = w0;
-    goto L2;
-    L3:;
-    t0 = l1 * 136ull;
-    l4 = t0;
-    t0 = l0 + 24ull;
-    t0 = I64_LOAD(m, t0);
-    t0 = I64_LOAD(m, t0);
-    l6 = t0;
-    t0 = l6 + 16ull;
-    t0 = I64_LOAD(m, t0);
-    w0 = t0 == 0;
-    if (w0) goto L5;
-    t0 = l6 + 8ull;
-    t0 = I64_LOAD(m, t0);
-    l7 = t0;
-    t0 = l7 + 32ull;
-    l8 = t0;
-    t0 = I64_LOAD(m, l8);
-    t0 = t0 & 18446744073709551608ull;
-    l9 = t0;
-    w0 = l9 < l4;
-    if (w0) goto L5;
-    t0 = l9 - l4;
-    l4 = t0;
-    I64_STORE(m, l8, l4);
-    t0 = I64_LOAD(m, l7);
-    t0 = t0 + l4;
-    l4 = t0;
-    l10 = 1u;
-    goto L4;
-    L5:;
-    f162(m, l2, l6, l4, 8ull);
-    t0 = I64_LOAD(m, l2 + 8u);
-    l4 = t0;
-    w0 = I32_LOAD8_U(m, l2);
-    l10 = w0;
-    L4:;
-    l5 = 1u;
-    w0 = l10 & 1u;
-    if (w0) goto L6;
-    l4 = 0ull;
-    goto L2;
-    L6:;
-    t0 = l6 + 24ull;
-    l6 = t0;
-    t0 = I64_LOAD(m, l6);
-    l7 = t0;
-    w0 = l7 != 18446744073709551615ull;
-    if (w0) goto L7;
-    l4 = 0ull;
-    goto L2;
-    L7:;
-    t0 = l7 + 1ull;
-    I64_STORE(m, l6, t0);
-    l5 = 0u;
-    L2:;
-    w0 = l5 & 255u;
-    if (w0) goto L1;
-    t0 = l0 + 16ull;
-    I64_STORE(m, t0, l1);
-    I64_STORE(m, l0, l4);
-    l3 = 1u;
-    L1:;
-    t0 = l2 + 32ull;
-    m->stack_pointer = t0;
-    return l3;
-    TRAP(m);
-    return 0;
-}
-
-/* bech32_near_search::gathering::push_raised::<#b6060419b250a926> */
-static u32 f273(Machine *m, u64 l0, u64 l1, u64 l2, u64 l3, u32 l4, u64 l5) {
+/* bech32_near::search::gathering::push_raised::<#b6060419b250a926> */
+static u32 f267(Machine *m, u64 l0, u64 l1, u64 l2, u64 l3, u32 l4, u64 l5) {
     u32 l7 = 0, l15 = 0, w0;
     u64 l6 = 0, l8 = 0, l9 = 0, l10 = 0, l11 = 0, l12 = 0, l13 = 0, l14 = 0, l16 = 0, l17 = 0, l18 = 0, l19 = 0, t0, t1, t2, t3;
     u64 t4;
@@ -90830,7 +89780,7 @@ static u32 f273(Machine *m, u64 l0, u64 l1, u64 l2, u64 l3, u32 l4, u64 l5) {
     l14 = t4;
     w0 = l14 > l13;
     t4 = w0 ? 0ull : l14;
-    f274(m, t0, t1, l12, t2, l3, l4, t3, t4);
+    f268(m, t0, t1, l12, t2, l3, l4, t3, t4);
     w0 = I32_LOAD8_U(m, l6 + 104u);
     if (w0) goto L1;
     t0 = I64_LOAD(m, l6 + 144u);
@@ -90853,7 +89803,7 @@ static u32 f273(Machine *m, u64 l0, u64 l1, u64 l2, u64 l3, u32 l4, u64 l5) {
     l13 = t1;
     w0 = t0 != l13;
     if (w0) goto L7;
-    w0 = f241(m, l5);
+    w0 = f231(m, l5);
     w0 = w0 == 0;
     if (w0) goto L3;
     t0 = l5 + 8ull;
@@ -90935,8 +89885,8 @@ static u32 f273(Machine *m, u64 l0, u64 l1, u64 l2, u64 l3, u32 l4, u64 l5) {
     return l7;
 }
 
-/* bech32_near_search::gathering::with_error::<#b6060419b250a926> */
-static void f274(Machine *m, u64 l0, u64 l1, u64 l2, u64 l3, u64 l4, u32 l5, u64 l6, u64 l7) {
+/* bech32_near::search::gathering::with_error::<#b6060419b250a926> */
+static void f268(Machine *m, u64 l0, u64 l1, u64 l2, u64 l3, u64 l4, u32 l5, u64 l6, u64 l7) {
     u32 l12 = 0, l13 = 0, l14 = 0, w0;
     u64 l8 = 0, l9 = 0, l10 = 0, l11 = 0, l15 = 0, t0, t1, t2;
     FRAME(m, 432u);
@@ -90984,7 +89934,7 @@ static void f274(Machine *m, u64 l0, u64 l1, u64 l2, u64 l3, u64 l4, u32 l5, u64
     w0 = t0 != t1;
     if (w0) goto L8;
     t0 = l8 + 296ull;
-    w0 = f258(m, t0);
+    w0 = f252(m, t0);
     l14 = w0;
     w0 = I32_LOAD8_U(m, l8 + 296u);
     l13 = w0;
@@ -91055,7 +90005,7 @@ static void f274(Machine *m, u64 l0, u64 l1, u64 l2, u64 l3, u64 l4, u32 l5, u64
     w0 = t0 != t1;
     if (w0) goto L4;
     t0 = l8 + 160ull;
-    w0 = f258(m, t0);
+    w0 = f252(m, t0);
     l12 = w0;
     w0 = I32_LOAD8_U(m, l8 + 160u);
     l13 = w0;
@@ -91186,7 +90136,7 @@ static void f274(Machine *m, u64 l0, u64 l1, u64 l2, u64 l3, u64 l4, u32 l5, u64
     w0 = t0 != t1;
     if (w0) goto L19;
     t0 = l8 + 160ull;
-    w0 = f258(m, t0);
+    w0 = f252(m, t0);
     l12 = w0;
     w0 = I32_LOAD8_U(m, l8 + 160u);
     l13 = w0;
@@ -91245,7 +90195,7 @@ static void f274(Machine *m, u64 l0, u64 l1, u64 l2, u64 l3, u64 l4, u32 l5, u64
     w0 = t0 != t1;
     if (w0) goto L24;
     t0 = l8 + 160ull;
-    w0 = f258(m, t0);
+    w0 = f252(m, t0);
     l14 = w0;
     w0 = I32_LOAD8_U(m, l8 + 160u);
     l13 = w0;
@@ -91348,7 +90298,7 @@ static void f274(Machine *m, u64 l0, u64 l1, u64 l2, u64 l3, u64 l4, u32 l5, u64
     I64_STORE(m, l8 + 8u, t0);
     t0 = I64_LOAD(m, l8 + 168u);
     I64_STORE(m, l8, t0);
-    f271(m, l8);
+    f264(m, l8);
     L29:;
     I32_STORE8(m, l0, 1u);
     t0 = l0 + 8ull;
@@ -91361,8 +90311,8 @@ static void f274(Machine *m, u64 l0, u64 l1, u64 l2, u64 l3, u64 l4, u32 l5, u64
     m->stack_pointer = t0;
 }
 
-/* bech32_near_search::gathering::push_highest::<#b6060419b250a926> */
-static u32 f275(Machine *m, u64 l0, u64 l1, u64 l2, u64 l3, u64 l4) {
+/* bech32_near::search::gathering::push_highest::<#b6060419b250a926> */
+static u32 f269(Machine *m, u64 l0, u64 l1, u64 l2, u64 l3, u64 l4) {
     u32 l7 = 0, l9 = 0, l12 = 0, l14 = 0, w0;
     u64 l5 = 0, l6 = 0, l8 = 0, l10 = 0, l11 = 0, l13 = 0, l15 = 0, t0, t1, t2, t3;
     FRAME(m, 160u);
@@ -91437,7 +90387,7 @@ static u32 f275(Machine *m, u64 l0, u64 l1, u64 l2, u64 l3, u64 l4) {
     t1 = I64_LOAD(m, t1);
     t2 = l12 ? l10 : l1;
     t3 = I64_LOAD(m, l13);
-    f274(m, t0, t1, l8, t2, t3, l14, l15, l11);
+    f268(m, t0, t1, l8, t2, t3, l14, l15, l11);
     l9 = 1u;
     w0 = I32_LOAD8_U(m, l6 + 8u);
     if (w0) goto L0;
@@ -91459,7 +90409,7 @@ static u32 f275(Machine *m, u64 l0, u64 l1, u64 l2, u64 l3, u64 l4) {
     l2 = t1;
     w0 = t0 != l2;
     if (w0) goto L7;
-    w0 = f241(m, l4);
+    w0 = f231(m, l4);
     w0 = w0 == 0;
     if (w0) goto L6;
     t0 = l4 + 8ull;
@@ -91527,7 +90477,7 @@ static u32 f275(Machine *m, u64 l0, u64 l1, u64 l2, u64 l3, u64 l4) {
 }
 
 /* std_alloc::vec::Vec::grow_amortized::<#b30c457610f59a21> */
-static u32 f276(Machine *m, u64 l0) {
+static u32 f270(Machine *m, u64 l0) {
     u32 l2 = 0, l8 = 0, l10 = 0, w0;
     u64 l1 = 0, l3 = 0, l4 = 0, l5 = 0, l6 = 0, l7 = 0, l9 = 0, t0, t1;
     FRAME(m, 32u);
@@ -91565,7 +90515,7 @@ static u32 f276(Machine *m, u64 l0) {
     if (w0) goto L3;
     t0 = l1 + 16ull;
     t1 = I64_LOAD(m, l0);
-    f225(m, t0, l7, t1, l3, l5, l4);
+    f220(m, t0, l7, t1, l3, l5, l4);
     t0 = I64_LOAD(m, l1 + 24u);
     l3 = t0;
     w0 = I32_LOAD8_U(m, l1 + 16u);
@@ -91599,7 +90549,7 @@ static u32 f276(Machine *m, u64 l0) {
     l10 = 1u;
     goto L4;
     L5:;
-    f162(m, l1, l5, l3, 8ull);
+    f158(m, l1, l5, l3, 8ull);
     t0 = I64_LOAD(m, l1 + 8u);
     l3 = t0;
     w0 = I32_LOAD8_U(m, l1);
@@ -91639,7 +90589,7 @@ static u32 f276(Machine *m, u64 l0) {
 }
 
 /* std_alloc::vec::deque::VecDeque::drop::<#0e429a253f0d9076> */
-static void f277(Machine *m, u64 l0) {
+static void f271(Machine *m, u64 l0) {
     u32 w0;
     u64 l1 = 0, l2 = 0, l3 = 0, l4 = 0, l5 = 0, l6 = 0, l7 = 0, l8 = 0, l9 = 0, t0, t1, t2;
     t0 = I64_LOAD(m, l0 + 40u);
@@ -91796,7 +90746,7 @@ static void f277(Machine *m, u64 l0) {
 }
 
 /* std_alloc::vec::Vec::drop::<#dc635a4bdb08d994> */
-static void f278(Machine *m, u64 l0) {
+static void f272(Machine *m, u64 l0) {
     u32 w0;
     u64 l1 = 0, l2 = 0, l3 = 0, l4 = 0, l5 = 0, l6 = 0, l7 = 0, l8 = 0, l9 = 0, l10 = 0, l11 = 0, t0, t1, t2;
     t0 = I64_LOAD(m, l0 + 24u);
@@ -91929,7 +90879,7 @@ static void f278(Machine *m, u64 l0) {
 }
 
 /* bech32_finders::correction::correct_by_roots::<#66be050040641104> */
-static void f279(Machine *m, u64 l0, u64 l1, u64 l2, u64 l3, u64 l4, u64 l5) {
+static void f273(Machine *m, u64 l0, u64 l1, u64 l2, u64 l3, u64 l4, u64 l5) {
     u32 l7 = 0, w0;
     u64 l6 = 0, l8 = 0, t0, t1, t2;
     FRAME(m, 448u);
@@ -91948,7 +90898,7 @@ static void f279(Machine *m, u64 l0, u64 l1, u64 l2, u64 l3, u64 l4, u64 l5) {
     I64_STORE(m, l6 + 136u, 1537ull);
     t0 = l6 + 160ull;
     t1 = l6 + 136ull;
-    f265(m, t0, l1, t1, l2, l3, l4, l5);
+    f259(m, t0, l1, t1, l2, l3, l4, l5);
     w0 = I32_LOAD8_U(m, l6 + 160u);
     if (w0) goto L5;
     w0 = I32_LOAD8_U(m, l6 + 168u);
@@ -92048,8 +90998,8 @@ static void f279(Machine *m, u64 l0, u64 l1, u64 l2, u64 l3, u64 l4, u64 l5) {
     m->stack_pointer = t0;
 }
 
-/* bech32_near_search::gathering::gather_with::<#66be050040641104> */
-static u32 f280(Machine *m, u64 l0, u64 l1, u32 l2, u64 l3, u64 l4) {
+/* bech32_near::search::gathering::gather_with::<#66be050040641104> */
+static u32 f274(Machine *m, u64 l0, u64 l1, u32 l2, u64 l3, u64 l4) {
     u32 l6 = 0, w0, w1;
     u64 l5 = 0, l7 = 0, t0, t1, t2;
     FRAME(m, 368u);
@@ -92058,7 +91008,7 @@ static u32 f280(Machine *m, u64 l0, u64 l1, u32 l2, u64 l3, u64 l4) {
     l5 = t0;
     m->stack_pointer = l5;
     MEMORY_FILL(m, l5, 0u, 168ull);
-    f244(m, l5, l0, l1, l2);
+    f238(m, l5, l0, l1, l2);
     l6 = 1u;
     w0 = I32_LOAD8_U(m, l5);
     if (w0) goto L1;
@@ -92076,10 +91026,10 @@ static u32 f280(Machine *m, u64 l0, u64 l1, u32 l2, u64 l3, u64 l4) {
     I64_STORE(m, l5 + 168u, t0);
     t0 = l5 + 200ull;
     t1 = l5 + 168ull;
-    w0 = f243(m, t0, l3, l1, t1);
+    w0 = f237(m, t0, l3, l1, t1);
     w0 = w0 & 255u;
     t0 = l5 + 168ull;
-    w0 = f245(m, l0, w0, t0, l1, l2, l4);
+    w0 = f239(m, l0, w0, t0, l1, l2, l4);
     l2 = w0;
     w0 = I32_LOAD8_U(m, l5 + 200u);
     w0 = w0 != 1u;
@@ -92233,7 +91183,7 @@ static u32 f280(Machine *m, u64 l0, u64 l1, u32 l2, u64 l3, u64 l4) {
 }
 
 /* core::cmp::text::RefStrPartialEq::eq */
-static u32 f281(Machine *m, u64 l0, u64 l1, u64 l2) {
+static u32 f275(Machine *m, u64 l0, u64 l1, u64 l2) {
     u32 l3 = 0, w0, w1, w2, w3, w4, w5, w6;
     u64 l4 = 0, l5 = 0, l6 = 0, t0, t1, t2, t3, t4;
     l3 = 0u;
@@ -93306,7 +92256,7 @@ static u32 f281(Machine *m, u64 l0, u64 l1, u64 l2) {
 }
 
 /* bech32_decode::address::SegwitHrpstring::new */
-static void f282(Machine *m, u64 l0, u64 l1, u64 l2) {
+static void f276(Machine *m, u64 l0, u64 l1, u64 l2) {
     u32 l5 = 0, l8 = 0, l10 = 0, l17 = 0, l18 = 0, w0, w1, w2;
     u64 l3 = 0, l4 = 0, l6 = 0, l7 = 0, l9 = 0, l11 = 0, l12 = 0, l13 = 0, l14 = 0, l15 = 0, l16 = 0, l19 = 0, t0, t1, t2;
     FRAME(m, 416u);
@@ -94049,7 +92999,7 @@ static void f282(Machine *m, u64 l0, u64 l1, u64 l2) {
 }
 
 /* std_alloc::vec::Vec::grow_amortized::<#0bfd44f52e0ee2b1> */
-static u32 f283(Machine *m, u64 l0) {
+static u32 f277(Machine *m, u64 l0) {
     u32 l3 = 0, l19 = 0, w0;
     u64 l1 = 0, l2 = 0, l4 = 0, l5 = 0, l6 = 0, l7 = 0, l8 = 0, l9 = 0, l10 = 0, l11 = 0, l12 = 0, l13 = 0, l14 = 0, l15 = 0, l16 = 0, l17 = 0;
     u64 l18 = 0, t0, t1;
@@ -94330,7 +93280,7 @@ static u32 f283(Machine *m, u64 l0) {
     goto L4;
     L5:;
     t0 = l2 + 16ull;
-    f162(m, t0, l9, l7, 8ull);
+    f158(m, t0, l9, l7, 8ull);
     t0 = I64_LOAD(m, l2 + 24u);
     l12 = t0;
     w0 = I32_LOAD8_U(m, l2 + 16u);
@@ -94573,7 +93523,7 @@ static u32 f283(Machine *m, u64 l0) {
     l19 = 1u;
     goto L20;
     L21:;
-    f162(m, l2, l4, l1, 8ull);
+    f158(m, l2, l4, l1, 8ull);
     t0 = I64_LOAD(m, l2 + 8u);
     l12 = t0;
     w0 = I32_LOAD8_U(m, l2);
@@ -94603,8 +93553,8 @@ static u32 f283(Machine *m, u64 l0) {
     return 0;
 }
 
-/* std_alloc::vec::Vec::grow_amortized::<#3bacdffb771bfed2> */
-static u32 f284(Machine *m, u64 l0) {
+/* std_alloc::vec::Vec::grow_amortized::<#e4bd3fad4a954458> */
+static u32 f278(Machine *m, u64 l0) {
     u32 l2 = 0, l8 = 0, l10 = 0, w0;
     u64 l1 = 0, l3 = 0, l4 = 0, l5 = 0, l6 = 0, l7 = 0, l9 = 0, t0, t1;
     FRAME(m, 32u);
@@ -94642,7 +93592,7 @@ static u32 f284(Machine *m, u64 l0) {
     if (w0) goto L3;
     t0 = l1 + 16ull;
     t1 = I64_LOAD(m, l0);
-    f161(m, t0, l7, t1, l3, l5, l4);
+    f157(m, t0, l7, t1, l3, l5, l4);
     t0 = I64_LOAD(m, l1 + 24u);
     l3 = t0;
     w0 = I32_LOAD8_U(m, l1 + 16u);
@@ -94676,7 +93626,7 @@ static u32 f284(Machine *m, u64 l0) {
     l10 = 1u;
     goto L4;
     L5:;
-    f162(m, l1, l5, l3, 8ull);
+    f158(m, l1, l5, l3, 8ull);
     t0 = I64_LOAD(m, l1 + 8u);
     l3 = t0;
     w0 = I32_LOAD8_U(m, l1);
@@ -94715,8 +93665,8 @@ static u32 f284(Machine *m, u64 l0) {
     return 0;
 }
 
-/* bech32_near_edits::texts::edited_all::<#b6060419b250a926> */
-static void f285(Machine *m, u64 l0, u64 l1, u64 l2, u64 l3, u64 l4) {
+/* bech32_near::edits::texts::edited_all::<#b6060419b250a926> */
+static void f279(Machine *m, u64 l0, u64 l1, u64 l2, u64 l3, u64 l4) {
     u32 l12 = 0, l13 = 0, l14 = 0, w0;
     u64 l5 = 0, l6 = 0, l7 = 0, l8 = 0, l9 = 0, l10 = 0, l11 = 0, l15 = 0, l16 = 0, l17 = 0, l18 = 0, l19 = 0, l20 = 0, t0, t1, t2;
     FRAME(m, 96u);
@@ -94787,12 +93737,12 @@ static void f285(Machine *m, u64 l0, u64 l1, u64 l2, u64 l3, u64 l4) {
     t0 = l5 + 40ull;
     t1 = l4 + 18446744073709551614ull;
     t2 = l5 + 86ull;
-    f286(m, t0, l1, l2, l3, t1, t2, 2ull, l4);
+    f280(m, t0, l1, l2, l3, t1, t2, 2ull, l4);
     goto L6;
     L8:;
     t0 = l5 + 40ull;
     t1 = l4 + 18446744073709551615ull;
-    f286(m, t0, l1, l2, l3, t1, PLACE(61885u), 0ull, l4);
+    f280(m, t0, l1, l2, l3, t1, PLACE(61885u), 0ull, l4);
     goto L6;
     L7:;
     t0 = l16 << 2;
@@ -94800,7 +93750,7 @@ static void f285(Machine *m, u64 l0, u64 l1, u64 l2, u64 l3, u64 l4) {
     I32_STORE8(m, l5 + 86u, w0);
     t0 = l5 + 40ull;
     t1 = l5 + 86ull;
-    f286(m, t0, l1, l2, l3, l4, t1, 1ull, l4);
+    f280(m, t0, l1, l2, l3, l4, t1, 1ull, l4);
     L6:;
     w0 = I32_LOAD8_U(m, l5 + 40u);
     if (w0) goto L3;
@@ -94822,7 +93772,7 @@ static void f285(Machine *m, u64 l0, u64 l1, u64 l2, u64 l3, u64 l4) {
     w0 = t0 != l16;
     if (w0) goto L10;
     t0 = l5 + 8ull;
-    w0 = f287(m, t0);
+    w0 = f281(m, t0);
     w0 = w0 == 0;
     if (w0) goto L2;
     t0 = I64_LOAD(m, l5 + 8u);
@@ -95175,8 +94125,8 @@ static void f285(Machine *m, u64 l0, u64 l1, u64 l2, u64 l3, u64 l4) {
     m->stack_pointer = t0;
 }
 
-/* bech32_near_edits::texts::text_with::<#ac32f9bf47712701> */
-static void f286(Machine *m, u64 l0, u64 l1, u64 l2, u64 l3, u64 l4, u64 l5, u64 l6, u64 l7) {
+/* bech32_near::edits::texts::text_with::<#2ef9eb24fe536ab1> */
+static void f280(Machine *m, u64 l0, u64 l1, u64 l2, u64 l3, u64 l4, u64 l5, u64 l6, u64 l7) {
     u32 l15 = 0, w0, w1;
     u64 l8 = 0, l9 = 0, l10 = 0, l11 = 0, l12 = 0, l13 = 0, l14 = 0, l16 = 0, l17 = 0, t0, t1, t2;
     FRAME(m, 64u);
@@ -95218,7 +94168,7 @@ static void f286(Machine *m, u64 l0, u64 l1, u64 l2, u64 l3, u64 l4, u64 l5, u64
     goto L6;
     L7:;
     t0 = l9 + 8ull;
-    f162(m, t0, l8, l11, 1ull);
+    f158(m, t0, l8, l11, 1ull);
     t0 = I64_LOAD(m, l9 + 16u);
     l10 = t0;
     w0 = I32_LOAD8_U(m, l9 + 8u);
@@ -95244,7 +94194,7 @@ static void f286(Machine *m, u64 l0, u64 l1, u64 l2, u64 l3, u64 l4, u64 l5, u64
     w0 = l4 <= l11;
     if (w0) goto L8;
     t0 = l9 + 24ull;
-    w0 = f288(m, t0, l4);
+    w0 = f282(m, t0, l4);
     l15 = w0;
     t0 = I64_LOAD(m, l9 + 40u);
     l11 = t0;
@@ -95379,7 +94329,7 @@ static void f286(Machine *m, u64 l0, u64 l1, u64 l2, u64 l3, u64 l4, u64 l5, u64
     w0 = l6 <= t0;
     if (w0) goto L18;
     t0 = l9 + 24ull;
-    w0 = f288(m, t0, l6);
+    w0 = f282(m, t0, l6);
     l15 = w0;
     t0 = I64_LOAD(m, l9 + 40u);
     l11 = t0;
@@ -95417,7 +94367,7 @@ static void f286(Machine *m, u64 l0, u64 l1, u64 l2, u64 l3, u64 l4, u64 l5, u64
     w0 = l4 <= t0;
     if (w0) goto L21;
     t0 = l9 + 24ull;
-    w0 = f288(m, t0, l4);
+    w0 = f282(m, t0, l4);
     l15 = w0;
     t0 = I64_LOAD(m, l9 + 40u);
     l11 = t0;
@@ -95648,8 +94598,8 @@ static void f286(Machine *m, u64 l0, u64 l1, u64 l2, u64 l3, u64 l4, u64 l5, u64
     m->stack_pointer = t0;
 }
 
-/* std_alloc::vec::Vec::grow_amortized::<#083800f2824570aa> */
-static u32 f287(Machine *m, u64 l0) {
+/* std_alloc::vec::Vec::grow_amortized::<#0c347bf6591308a4> */
+static u32 f281(Machine *m, u64 l0) {
     u32 l2 = 0, l8 = 0, l10 = 0, w0;
     u64 l1 = 0, l3 = 0, l4 = 0, l5 = 0, l6 = 0, l7 = 0, l9 = 0, t0, t1;
     FRAME(m, 32u);
@@ -95687,7 +94637,7 @@ static u32 f287(Machine *m, u64 l0) {
     if (w0) goto L3;
     t0 = l1 + 16ull;
     t1 = I64_LOAD(m, l0);
-    f168(m, t0, l7, t1, l3, l5, l4);
+    f164(m, t0, l7, t1, l3, l5, l4);
     t0 = I64_LOAD(m, l1 + 24u);
     l3 = t0;
     w0 = I32_LOAD8_U(m, l1 + 16u);
@@ -95721,7 +94671,7 @@ static u32 f287(Machine *m, u64 l0) {
     l10 = 1u;
     goto L4;
     L5:;
-    f162(m, l1, l5, l3, 8ull);
+    f158(m, l1, l5, l3, 8ull);
     t0 = I64_LOAD(m, l1 + 8u);
     l3 = t0;
     w0 = I32_LOAD8_U(m, l1);
@@ -95760,8 +94710,8 @@ static u32 f287(Machine *m, u64 l0) {
     return 0;
 }
 
-/* std_alloc::vec::Vec::grow_amortized::<#1faf83fe3dff111c> */
-static u32 f288(Machine *m, u64 l0, u64 l1) {
+/* std_alloc::vec::Vec::grow_amortized::<#a6e90e4c98ce48c8> */
+static u32 f282(Machine *m, u64 l0, u64 l1) {
     u32 l3 = 0, l8 = 0, l10 = 0, w0;
     u64 l2 = 0, l4 = 0, l5 = 0, l6 = 0, l7 = 0, l9 = 0, t0, t1;
     FRAME(m, 32u);
@@ -95801,7 +94751,7 @@ static u32 f288(Machine *m, u64 l0, u64 l1) {
     if (w0) goto L3;
     t0 = l2 + 16ull;
     t1 = I64_LOAD(m, l0);
-    f167(m, t0, l7, t1, l4, l1, l5);
+    f163(m, t0, l7, t1, l4, l1, l5);
     t0 = I64_LOAD(m, l2 + 24u);
     l1 = t0;
     w0 = I32_LOAD8_U(m, l2 + 16u);
@@ -95832,7 +94782,7 @@ static u32 f288(Machine *m, u64 l0, u64 l1) {
     l10 = 1u;
     goto L4;
     L5:;
-    f162(m, l2, l4, l6, 1ull);
+    f158(m, l2, l4, l6, 1ull);
     t0 = I64_LOAD(m, l2 + 8u);
     l1 = t0;
     w0 = I32_LOAD8_U(m, l2);
@@ -95881,14 +94831,14 @@ static u32 of_bech32_check(Machine *m, u32 l0, u64 l1, u64 l2, u64 l3, u64 l4) {
     TRAP(m);
     return 0;
     L0:;
-    w0 = f290(m, l0, l1, l2, l3, l4);
+    w0 = f284(m, l0, l1, l2, l3, l4);
     l0 = w0;
     LEAVE(m);
     return l0;
 }
 
 /* rattle::export bech32_check */
-static u32 f290(Machine *m, u32 l0, u64 l1, u64 l2, u64 l3, u64 l4) {
+static u32 f284(Machine *m, u32 l0, u64 l1, u64 l2, u64 l3, u64 l4) {
     u32 l7 = 0, w0, w1, w2;
     u64 l5 = 0, l6 = 0, l8 = 0, l9 = 0, l10 = 0, l11 = 0, l12 = 0, l13 = 0, l14 = 0, l15 = 0, t0, t1, t2;
     FRAME(m, 64u);
@@ -97276,14 +96226,14 @@ static u32 of_bech32_check_many(Machine *m, u32 l0, u64 l1, u64 l2, u64 l3, u64 
     TRAP(m);
     return 0;
     L0:;
-    w0 = f292(m, l0, l1, l2, l3, l4);
+    w0 = f286(m, l0, l1, l2, l3, l4);
     l0 = w0;
     LEAVE(m);
     return l0;
 }
 
 /* rattle::export bech32_check_many */
-static u32 f292(Machine *m, u32 l0, u64 l1, u64 l2, u64 l3, u64 l4) {
+static u32 f286(Machine *m, u32 l0, u64 l1, u64 l2, u64 l3, u64 l4) {
     u32 l7 = 0, l11 = 0, l13 = 0, w0, w1, w2;
     u64 l5 = 0, l6 = 0, l8 = 0, l9 = 0, l10 = 0, l12 = 0, l14 = 0, l15 = 0, l16 = 0, l17 = 0, l18 = 0, l19 = 0, l20 = 0, t0, t1, t2;
     FRAME(m, 128u);
@@ -99410,14 +98360,14 @@ static u32 of_bech32_correct(Machine *m, u32 l0, u64 l1, u64 l2, u64 l3, u64 l4,
     TRAP(m);
     return 0;
     L0:;
-    w0 = f294(m, l0, l1, l2, l3, l4, l5, l6, l7, l8, l9, l10, l11, l12);
+    w0 = f288(m, l0, l1, l2, l3, l4, l5, l6, l7, l8, l9, l10, l11, l12);
     l0 = w0;
     LEAVE(m);
     return l0;
 }
 
 /* rattle::export bech32_correct */
-static u32 f294(Machine *m, u32 l0, u64 l1, u64 l2, u64 l3, u64 l4, u64 l5, u64 l6, u64 l7, u64 l8, u64 l9, u64 l10, u64 l11, u64 l12) {
+static u32 f288(Machine *m, u32 l0, u64 l1, u64 l2, u64 l3, u64 l4, u64 l5, u64 l6, u64 l7, u64 l8, u64 l9, u64 l10, u64 l11, u64 l12) {
     u32 l22 = 0, l30 = 0, l31 = 0, l32 = 0, l33 = 0, w0, w1, w2;
     u64 l13 = 0, l14 = 0, l15 = 0, l16 = 0, l17 = 0, l18 = 0, l19 = 0, l20 = 0, l21 = 0, l23 = 0, l24 = 0, l25 = 0, l26 = 0, l27 = 0, l28 = 0, l29 = 0;
     u64 t0, t1, t2;
@@ -101953,14 +100903,14 @@ static u32 of_bech32_decode(Machine *m, u64 l0, u64 l1, u64 l2, u64 l3, u64 l4, 
     TRAP(m);
     return 0;
     L0:;
-    w0 = f296(m, l0, l1, l2, l3, l4, l5, l6, l7);
+    w0 = f290(m, l0, l1, l2, l3, l4, l5, l6, l7);
     l8 = w0;
     LEAVE(m);
     return l8;
 }
 
 /* rattle::export bech32_decode */
-static u32 f296(Machine *m, u64 l0, u64 l1, u64 l2, u64 l3, u64 l4, u64 l5, u64 l6, u64 l7) {
+static u32 f290(Machine *m, u64 l0, u64 l1, u64 l2, u64 l3, u64 l4, u64 l5, u64 l6, u64 l7) {
     u32 l12 = 0, l13 = 0, w0, w1, w2;
     u64 l8 = 0, l9 = 0, l10 = 0, l11 = 0, l14 = 0, l15 = 0, l16 = 0, l17 = 0, l18 = 0, l19 = 0, l20 = 0, t0, t1;
     FRAME(m, 64u);
@@ -102418,14 +101368,14 @@ static u32 of_bech32_decode_elements(Machine *m, u32 l0, u64 l1, u64 l2, u64 l3,
     TRAP(m);
     return 0;
     L0:;
-    w0 = f298(m, l0, l1, l2, l3, l4, l5, l6, l7, l8);
+    w0 = f292(m, l0, l1, l2, l3, l4, l5, l6, l7, l8);
     l0 = w0;
     LEAVE(m);
     return l0;
 }
 
 /* rattle::export bech32_decode_elements */
-static u32 f298(Machine *m, u32 l0, u64 l1, u64 l2, u64 l3, u64 l4, u64 l5, u64 l6, u64 l7, u64 l8) {
+static u32 f292(Machine *m, u32 l0, u64 l1, u64 l2, u64 l3, u64 l4, u64 l5, u64 l6, u64 l7, u64 l8) {
     u32 l15 = 0, w0, w1, w2;
     u64 l9 = 0, l10 = 0, l11 = 0, l12 = 0, l13 = 0, l14 = 0, l16 = 0, l17 = 0, l18 = 0, l19 = 0, l20 = 0, l21 = 0, l22 = 0, l23 = 0, l24 = 0, t0;
     u64 t1;
@@ -104349,14 +103299,14 @@ static u32 of_bech32_decode_strict(Machine *m, u32 l0, u64 l1, u64 l2, u64 l3, u
     TRAP(m);
     return 0;
     L0:;
-    w0 = f300(m, l0, l1, l2, l3, l4, l5, l6, l7, l8);
+    w0 = f294(m, l0, l1, l2, l3, l4, l5, l6, l7, l8);
     l0 = w0;
     LEAVE(m);
     return l0;
 }
 
 /* rattle::export bech32_decode_strict */
-static u32 f300(Machine *m, u32 l0, u64 l1, u64 l2, u64 l3, u64 l4, u64 l5, u64 l6, u64 l7, u64 l8) {
+static u32 f294(Machine *m, u32 l0, u64 l1, u64 l2, u64 l3, u64 l4, u64 l5, u64 l6, u64 l7, u64 l8) {
     u32 l13 = 0, w0, w1, w2;
     u64 l9 = 0, l10 = 0, l11 = 0, l12 = 0, l14 = 0, l15 = 0, l16 = 0, l17 = 0, l18 = 0, l19 = 0, l20 = 0, l21 = 0, l22 = 0, t0, t1;
     FRAME(m, 64u);
@@ -106151,14 +105101,14 @@ static u32 of_bech32_descriptor_check(Machine *m, u64 l0, u64 l1, u64 l2) {
     TRAP(m);
     return 0;
     L0:;
-    w0 = f302(m, l0, l1, l2);
+    w0 = f296(m, l0, l1, l2);
     l3 = w0;
     LEAVE(m);
     return l3;
 }
 
 /* rattle::export bech32_descriptor_check */
-static u32 f302(Machine *m, u64 l0, u64 l1, u64 l2) {
+static u32 f296(Machine *m, u64 l0, u64 l1, u64 l2) {
     u32 l4 = 0, w0;
     u64 l3 = 0, t0, t1;
     FRAME(m, 32u);
@@ -106218,14 +105168,14 @@ static u32 of_bech32_descriptor_checksum(Machine *m, u64 l0, u64 l1, u64 l2, u64
     TRAP(m);
     return 0;
     L0:;
-    w0 = f304(m, l0, l1, l2, l3, l4, l5);
+    w0 = f298(m, l0, l1, l2, l3, l4, l5);
     l6 = w0;
     LEAVE(m);
     return l6;
 }
 
 /* rattle::export bech32_descriptor_checksum */
-static u32 f304(Machine *m, u64 l0, u64 l1, u64 l2, u64 l3, u64 l4, u64 l5) {
+static u32 f298(Machine *m, u64 l0, u64 l1, u64 l2, u64 l3, u64 l4, u64 l5) {
     u32 l12 = 0, w0, w1;
     u64 l6 = 0, l7 = 0, l8 = 0, l9 = 0, l10 = 0, l11 = 0, l13 = 0, t0, t1;
     FRAME(m, 32u);
@@ -106446,14 +105396,14 @@ static u32 of_bech32_encode(Machine *m, u32 l0, u64 l1, u64 l2, u64 l3, u64 l4, 
     TRAP(m);
     return 0;
     L0:;
-    w0 = f306(m, l0, l1, l2, l3, l4, l5, l6, l7);
+    w0 = f300(m, l0, l1, l2, l3, l4, l5, l6, l7);
     l0 = w0;
     LEAVE(m);
     return l0;
 }
 
 /* rattle::export bech32_encode */
-static u32 f306(Machine *m, u32 l0, u64 l1, u64 l2, u64 l3, u64 l4, u64 l5, u64 l6, u64 l7) {
+static u32 f300(Machine *m, u32 l0, u64 l1, u64 l2, u64 l3, u64 l4, u64 l5, u64 l6, u64 l7) {
     u32 l13 = 0, l17 = 0, l18 = 0, l19 = 0, w0, w1, w2;
     u64 l8 = 0, l9 = 0, l10 = 0, l11 = 0, l12 = 0, l14 = 0, l15 = 0, l16 = 0, t0, t1;
     FRAME(m, 32u);
@@ -108232,14 +107182,14 @@ static u32 of_bech32_encode_elements(Machine *m, u32 l0, u64 l1, u64 l2, u64 l3,
     TRAP(m);
     return 0;
     L0:;
-    w0 = f308(m, l0, l1, l2, l3, l4, l5, l6, l7, l8);
+    w0 = f302(m, l0, l1, l2, l3, l4, l5, l6, l7, l8);
     l0 = w0;
     LEAVE(m);
     return l0;
 }
 
 /* rattle::export bech32_encode_elements */
-static u32 f308(Machine *m, u32 l0, u64 l1, u64 l2, u64 l3, u64 l4, u64 l5, u64 l6, u64 l7, u64 l8) {
+static u32 f302(Machine *m, u32 l0, u64 l1, u64 l2, u64 l3, u64 l4, u64 l5, u64 l6, u64 l7, u64 l8) {
     u32 l14 = 0, l15 = 0, l16 = 0, w0, w1, w2;
     u64 l9 = 0, l10 = 0, l11 = 0, l12 = 0, l13 = 0, t0, t1, t2;
     FRAME(m, 224u);
@@ -109822,14 +108772,14 @@ static u32 of_bech32_fault(Machine *m, u32 l0, u64 l1, u64 l2, u64 l3) {
     TRAP(m);
     return 0;
     L0:;
-    w0 = f310(m, l0, l1, l2, l3);
+    w0 = f304(m, l0, l1, l2, l3);
     l0 = w0;
     LEAVE(m);
     return l0;
 }
 
 /* rattle::export bech32_fault */
-static u32 f310(Machine *m, u32 l0, u64 l1, u64 l2, u64 l3) {
+static u32 f304(Machine *m, u32 l0, u64 l1, u64 l2, u64 l3) {
     u32 l5 = 0, l14 = 0, w0, w1, w2;
     u64 l4 = 0, l6 = 0, l7 = 0, l8 = 0, l9 = 0, l10 = 0, l11 = 0, l12 = 0, l13 = 0, t0, t1, t2;
     FRAME(m, 64u);
@@ -111458,14 +110408,14 @@ static u32 of_bech32_liquid_decode(Machine *m, u64 l0, u64 l1, u64 l2, u64 l3, u
     TRAP(m);
     return 0;
     L0:;
-    w0 = f312(m, l0, l1, l2, l3, l4, l5, l6, l7, l8, l9);
+    w0 = f306(m, l0, l1, l2, l3, l4, l5, l6, l7, l8, l9);
     l10 = w0;
     LEAVE(m);
     return l10;
 }
 
 /* rattle::export bech32_liquid_decode */
-static u32 f312(Machine *m, u64 l0, u64 l1, u64 l2, u64 l3, u64 l4, u64 l5, u64 l6, u64 l7, u64 l8, u64 l9) {
+static u32 f306(Machine *m, u64 l0, u64 l1, u64 l2, u64 l3, u64 l4, u64 l5, u64 l6, u64 l7, u64 l8, u64 l9) {
     u32 l12 = 0, l13 = 0, l14 = 0, l15 = 0, l16 = 0, l17 = 0, l18 = 0, l19 = 0, l20 = 0, l21 = 0, l22 = 0, l23 = 0, l24 = 0, l25 = 0, l26 = 0, l27 = 0;
     u32 l28 = 0, l29 = 0, l30 = 0, l31 = 0, l32 = 0, l33 = 0, l34 = 0, l35 = 0, l36 = 0, l48 = 0, l49 = 0, l50 = 0, l51 = 0, l52 = 0, l53 = 0, l54 = 0;
     u32 l55 = 0, l56 = 0, l57 = 0, l58 = 0, l59 = 0, l60 = 0, w0, w1;
@@ -112668,14 +111618,14 @@ static u32 of_bech32_liquid_encode(Machine *m, u64 l0, u64 l1, u32 l2, u64 l3, u
     TRAP(m);
     return 0;
     L0:;
-    w0 = f314(m, l0, l1, l2, l3, l4, l5, l6, l7, l8);
+    w0 = f308(m, l0, l1, l2, l3, l4, l5, l6, l7, l8);
     l2 = w0;
     LEAVE(m);
     return l2;
 }
 
 /* rattle::export bech32_liquid_encode */
-static u32 f314(Machine *m, u64 l0, u64 l1, u32 l2, u64 l3, u64 l4, u64 l5, u64 l6, u64 l7, u64 l8) {
+static u32 f308(Machine *m, u64 l0, u64 l1, u32 l2, u64 l3, u64 l4, u64 l5, u64 l6, u64 l7, u64 l8) {
     u32 l10 = 0, l18 = 0, l19 = 0, l20 = 0, l21 = 0, l22 = 0, w0, w1;
     u64 l9 = 0, l11 = 0, l12 = 0, l13 = 0, l14 = 0, l15 = 0, l16 = 0, l17 = 0, l23 = 0, t0, t1, t2;
     FRAME(m, 352u);
@@ -113654,14 +112604,14 @@ static u32 of_bech32_message(Machine *m, u32 l0, u64 l1, u64 l2, u64 l3) {
     TRAP(m);
     return 0;
     L0:;
-    w0 = f316(m, l0, l1, l2, l3);
+    w0 = f310(m, l0, l1, l2, l3);
     l0 = w0;
     LEAVE(m);
     return l0;
 }
 
 /* rattle::export bech32_message */
-static u32 f316(Machine *m, u32 l0, u64 l1, u64 l2, u64 l3) {
+static u32 f310(Machine *m, u32 l0, u64 l1, u64 l2, u64 l3) {
     u32 w0;
     u64 l4 = 0, l5 = 0, l6 = 0, l7 = 0, l8 = 0, l9 = 0, t0, t1;
     l4 = 0ull;
@@ -113744,7 +112694,7 @@ static u32 f316(Machine *m, u32 l0, u64 l1, u64 l2, u64 l3) {
     case 67: goto L4;
     case 68: goto L4;
     case 69: goto L22;
-    case 70: goto L21;
+    case 70: goto L4;
     case 71: goto L4;
     case 72: goto L4;
     case 73: goto L4;
@@ -113752,7 +112702,7 @@ static u32 f316(Machine *m, u32 l0, u64 l1, u64 l2, u64 l3) {
     case 75: goto L4;
     case 76: goto L4;
     case 77: goto L4;
-    case 78: goto L4;
+    case 78: goto L21;
     case 79: goto L20;
     case 80: goto L4;
     case 81: goto L4;
@@ -113984,14 +112934,14 @@ static u32 of_bech32_residue(Machine *m, u32 l0, u64 l1, u64 l2, u64 l3) {
     TRAP(m);
     return 0;
     L0:;
-    w0 = f318(m, l0, l1, l2, l3);
+    w0 = f312(m, l0, l1, l2, l3);
     l0 = w0;
     LEAVE(m);
     return l0;
 }
 
 /* rattle::export bech32_residue */
-static u32 f318(Machine *m, u32 l0, u64 l1, u64 l2, u64 l3) {
+static u32 f312(Machine *m, u32 l0, u64 l1, u64 l2, u64 l3) {
     u32 l4 = 0, l6 = 0, w0, w1;
     u64 l5 = 0, t0, t1, t2, t3;
     w0 = l1 == 0;
@@ -114232,14 +113182,14 @@ static u32 of_bech32_segwit_decode(Machine *m, u64 l0, u64 l1, u64 l2, u64 l3, u
     TRAP(m);
     return 0;
     L0:;
-    w0 = f320(m, l0, l1, l2, l3, l4, l5, l6, l7, l8);
+    w0 = f314(m, l0, l1, l2, l3, l4, l5, l6, l7, l8);
     l9 = w0;
     LEAVE(m);
     return l9;
 }
 
 /* rattle::export bech32_segwit_decode */
-static u32 f320(Machine *m, u64 l0, u64 l1, u64 l2, u64 l3, u64 l4, u64 l5, u64 l6, u64 l7, u64 l8) {
+static u32 f314(Machine *m, u64 l0, u64 l1, u64 l2, u64 l3, u64 l4, u64 l5, u64 l6, u64 l7, u64 l8) {
     u32 l11 = 0, l12 = 0, l13 = 0, l14 = 0, l15 = 0, l25 = 0, l26 = 0, w0, w1, w2;
     u64 l9 = 0, l10 = 0, l16 = 0, l17 = 0, l18 = 0, l19 = 0, l20 = 0, l21 = 0, l22 = 0, l23 = 0, l24 = 0, t0, t1, t2;
     FRAME(m, 192u);
@@ -115007,14 +113957,14 @@ static u32 of_bech32_segwit_encode(Machine *m, u64 l0, u64 l1, u32 l2, u64 l3, u
     TRAP(m);
     return 0;
     L0:;
-    w0 = f322(m, l0, l1, l2, l3, l4, l5, l6, l7);
+    w0 = f316(m, l0, l1, l2, l3, l4, l5, l6, l7);
     l2 = w0;
     LEAVE(m);
     return l2;
 }
 
 /* rattle::export bech32_segwit_encode */
-static u32 f322(Machine *m, u64 l0, u64 l1, u32 l2, u64 l3, u64 l4, u64 l5, u64 l6, u64 l7) {
+static u32 f316(Machine *m, u64 l0, u64 l1, u32 l2, u64 l3, u64 l4, u64 l5, u64 l6, u64 l7) {
     u32 l9 = 0, l10 = 0, w0;
     u64 l8 = 0, t0, t1, t2;
     FRAME(m, 80u);
@@ -115214,14 +114164,14 @@ static u32 of_bech32_validity_of(Machine *m, u64 l0, u64 l1, u64 l2, u64 l3, u64
     TRAP(m);
     return 0;
     L0:;
-    w0 = f324(m, l0, l1, l2, l3, l4);
+    w0 = f318(m, l0, l1, l2, l3, l4);
     l5 = w0;
     LEAVE(m);
     return l5;
 }
 
 /* rattle::export bech32_validity_of */
-static u32 f324(Machine *m, u64 l0, u64 l1, u64 l2, u64 l3, u64 l4) {
+static u32 f318(Machine *m, u64 l0, u64 l1, u64 l2, u64 l3, u64 l4) {
     u32 l5 = 0, w0, w1;
     u64 l6 = 0, l7 = 0, l8 = 0, l9 = 0, l10 = 0, l11 = 0, l12 = 0, t0, t1;
     l5 = 92u;
@@ -115410,13 +114360,13 @@ static u32 of_bech32_version(Machine *m) {
     TRAP(m);
     return 0;
     L0:;
-    f326(m);
+    f320(m);
     LEAVE(m);
     return 100u;
 }
 
 /* rattle::export bech32_version */
-static void f326(Machine *m) {
+static void f320(Machine *m) {
     (void)m;
 
 }
@@ -115431,14 +114381,14 @@ static u32 of_bech32_descriptor_mend(Machine *m, u64 l0, u64 l1, u64 l2, u64 l3,
     TRAP(m);
     return 0;
     L0:;
-    w0 = f328(m, l0, l1, l2, l3, l4, l5, l6, l7, l8, l9, l10);
+    w0 = f322(m, l0, l1, l2, l3, l4, l5, l6, l7, l8, l9, l10);
     l11 = w0;
     LEAVE(m);
     return l11;
 }
 
 /* rattle::export bech32_descriptor_mend */
-static u32 f328(Machine *m, u64 l0, u64 l1, u64 l2, u64 l3, u64 l4, u64 l5, u64 l6, u64 l7, u64 l8, u64 l9, u64 l10) {
+static u32 f322(Machine *m, u64 l0, u64 l1, u64 l2, u64 l3, u64 l4, u64 l5, u64 l6, u64 l7, u64 l8, u64 l9, u64 l10) {
     u32 l12 = 0, l14 = 0, l24 = 0, l28 = 0, w0, w1;
     u64 l11 = 0, l13 = 0, l15 = 0, l16 = 0, l17 = 0, l18 = 0, l19 = 0, l20 = 0, l21 = 0, l22 = 0, l23 = 0, l25 = 0, l26 = 0, l27 = 0, l29 = 0, l30 = 0;
     u64 l31 = 0, t0, t1, t2;
@@ -115571,7 +114521,7 @@ static u32 f328(Machine *m, u64 l0, u64 l1, u64 l2, u64 l3, u64 l4, u64 l5, u64 
     t2 = w0 ? 4096ull : 0ull;
     t2 = l0 + t2;
     l23 = t2;
-    f102(m, t0, t1, l23, l1);
+    f103(m, t0, t1, l23, l1);
     l24 = 0u;
     w0 = I32_LOAD8_U(m, l11 + 144u);
     if (w0) goto L6;
@@ -115613,7 +114563,7 @@ static u32 f328(Machine *m, u64 l0, u64 l1, u64 l2, u64 l3, u64 l4, u64 l5, u64 
     I32_STORE8(m, l11 + 200u, w0);
     t0 = l11 + 184ull;
     t1 = l11 + 248ull;
-    w0 = f105(m, l18, l0, l13, t0, t1);
+    w0 = f107(m, l18, l0, l13, t0, t1);
     w0 = w0 & 255u;
     if (w0) goto L24;
     t0 = l16 + 1ull;
@@ -115692,10 +114642,10 @@ static u32 f328(Machine *m, u64 l0, u64 l1, u64 l2, u64 l3, u64 l4, u64 l5, u64 
     if (w0) goto L28;
     t0 = l2 + 18446744073709551615ull;
     l26 = t0;
-    t0 = f106(m, l18, l0, l13, l26, l14);
+    t0 = f108(m, l18, l0, l13, l26, l14);
     l19 = t0;
     I32_STORE8(m, l17, l14);
-    t0 = f106(m, l18, l0, l13, l2, l12);
+    t0 = f108(m, l18, l0, l13, l2, l12);
     t0 = l19 ^ t0;
     t0 = t0 ^ l15;
     w0 = t0 == 1ull;
@@ -115721,7 +114671,7 @@ static u32 f328(Machine *m, u64 l0, u64 l1, u64 l2, u64 l3, u64 l4, u64 l5, u64 
     w0 = t0 != l16;
     if (w0) goto L30;
     t0 = l11 + 216ull;
-    w0 = f107(m, t0);
+    w0 = f109(m, t0);
     w0 = w0 == 0;
     if (w0) goto L12;
     t0 = I64_LOAD(m, l11 + 224u);
@@ -115768,7 +114718,7 @@ static u32 f328(Machine *m, u64 l0, u64 l1, u64 l2, u64 l3, u64 l4, u64 l5, u64 
     I64_STORE(m, l11 + 280u, 0ull);
     t0 = l11 + 288ull;
     t1 = l11 + 40ull;
-    f108(m, t0, t1, l23, l1, 0ull, PLACE(61885u), 0ull, 1ull);
+    f110(m, t0, t1, l23, l1, 0ull, PLACE(61885u), 0ull, 1ull);
     w0 = I32_LOAD8_U(m, l11 + 288u);
     if (w0) goto L8;
     t0 = I64_LOAD(m, l11 + 320u);
@@ -115814,7 +114764,7 @@ static u32 f328(Machine *m, u64 l0, u64 l1, u64 l2, u64 l3, u64 l4, u64 l5, u64 
     w0 = t0 != l17;
     if (w0) goto L34;
     t0 = l11 + 184ull;
-    w0 = f107(m, t0);
+    w0 = f109(m, t0);
     w0 = w0 == 0;
     if (w0) goto L10;
     t0 = I64_LOAD(m, l11 + 184u);
@@ -115836,7 +114786,7 @@ static u32 f328(Machine *m, u64 l0, u64 l1, u64 l2, u64 l3, u64 l4, u64 l5, u64 
     t0 = l23 + l2;
     w0 = I32_LOAD8_U(m, t0);
     l12 = w0;
-    t0 = f106(m, l18, l16, l15, l2, l12);
+    t0 = f108(m, l18, l16, l15, l2, l12);
     l17 = t0;
     t0 = l16 + l2;
     I32_STORE8(m, t0, l12);
@@ -115934,7 +114884,7 @@ static u32 f328(Machine *m, u64 l0, u64 l1, u64 l2, u64 l3, u64 l4, u64 l5, u64 
     L9:;
     t0 = l11 + 248ull;
     t1 = l11 + 40ull;
-    f108(m, t0, t1, l23, l1, 0ull, PLACE(61885u), 1ull, 0ull);
+    f110(m, t0, t1, l23, l1, 0ull, PLACE(61885u), 1ull, 0ull);
     w0 = I32_LOAD8_U(m, l11 + 248u);
     w0 = w0 == 0;
     if (w0) goto L38;
@@ -115998,7 +114948,7 @@ static u32 f328(Machine *m, u64 l0, u64 l1, u64 l2, u64 l3, u64 l4, u64 l5, u64 
     I64_STORE(m, l11 + 216u, l15);
     t0 = l11 + 216ull;
     t1 = l11 + 184ull;
-    w0 = f105(m, l18, l17, l13, t0, t1);
+    w0 = f107(m, l18, l17, l13, t0, t1);
     w0 = w0 & 255u;
     l12 = w0;
     w0 = l13 == l2;
@@ -116008,7 +114958,7 @@ static u32 f328(Machine *m, u64 l0, u64 l1, u64 l2, u64 l3, u64 l4, u64 l5, u64 
     l26 = t0;
     w0 = I32_LOAD8_U(m, l26);
     l12 = w0;
-    t0 = f106(m, l18, l17, l13, l19, l12);
+    t0 = f108(m, l18, l17, l13, l19, l12);
     l19 = t0;
     t0 = l26 + 18446744073709551615ull;
     I32_STORE8(m, t0, l12);
@@ -116239,7 +115189,7 @@ static u32 f328(Machine *m, u64 l0, u64 l1, u64 l2, u64 l3, u64 l4, u64 l5, u64 
     t0 = l11 + 288ull;
     t1 = l11 + 40ull;
     t2 = l11 + 144ull;
-    f109(m, t0, t1, l23, l1, t2);
+    f111(m, t0, t1, l23, l1, t2);
     w0 = I32_LOAD8_U(m, l11 + 288u);
     if (w0) goto L59;
     t0 = I64_LOAD(m, l11 + 320u);
@@ -116254,7 +115204,7 @@ static u32 f328(Machine *m, u64 l0, u64 l1, u64 l2, u64 l3, u64 l4, u64 l5, u64 
     w0 = t0 != l13;
     if (w0) goto L62;
     t0 = l11 + 248ull;
-    w0 = f110(m, t0);
+    w0 = f112(m, t0);
     w0 = w0 == 0;
     if (w0) goto L58;
     t0 = I64_LOAD(m, l11 + 248u);
@@ -116981,14 +115931,14 @@ static u32 of_bech32_descriptor_mend_two(Machine *m, u64 l0, u64 l1, u64 l2, u64
     TRAP(m);
     return 0;
     L0:;
-    w0 = f330(m, l0, l1, l2, l3, l4, l5, l6, l7);
+    w0 = f324(m, l0, l1, l2, l3, l4, l5, l6, l7);
     l8 = w0;
     LEAVE(m);
     return l8;
 }
 
 /* rattle::export bech32_descriptor_mend_two */
-static u32 f330(Machine *m, u64 l0, u64 l1, u64 l2, u64 l3, u64 l4, u64 l5, u64 l6, u64 l7) {
+static u32 f324(Machine *m, u64 l0, u64 l1, u64 l2, u64 l3, u64 l4, u64 l5, u64 l6, u64 l7) {
     u32 l11 = 0, l25 = 0, l35 = 0, l36 = 0, w0;
     u64 l8 = 0, l9 = 0, l10 = 0, l12 = 0, l13 = 0, l14 = 0, l15 = 0, l16 = 0, l17 = 0, l18 = 0, l19 = 0, l20 = 0, l21 = 0, l22 = 0, l23 = 0, l24 = 0;
     u64 l26 = 0, l27 = 0, l28 = 0, l29 = 0, l30 = 0, l31 = 0, l32 = 0, l33 = 0, l34 = 0, t0, t1, t2, t3;
@@ -117103,7 +116053,7 @@ static u32 f330(Machine *m, u64 l0, u64 l1, u64 l2, u64 l3, u64 l4, u64 l5, u64 
     I64_STORE(m, l9 + 168u, 0ull);
     t0 = l9 + 176ull;
     t1 = l9 + 32ull;
-    f102(m, t0, t1, l12, l1);
+    f103(m, t0, t1, l12, l1);
     w0 = I32_LOAD8_U(m, l9 + 176u);
     if (w0) goto L4;
     t0 = I64_LOAD(m, l9 + 208u);
@@ -117257,7 +116207,7 @@ static u32 f330(Machine *m, u64 l0, u64 l1, u64 l2, u64 l3, u64 l4, u64 l5, u64 
     w0 = l25 & 255u;
     w0 = l11 == w0;
     if (w0) goto L23;
-    t0 = f106(m, l23, l20, l19, l28, l25);
+    t0 = f108(m, l23, l20, l19, l28, l25);
     t0 = t0 ^ l24;
     l8 = t0;
     t0 = l8 >> 16;
@@ -117280,7 +116230,7 @@ static u32 f330(Machine *m, u64 l0, u64 l1, u64 l2, u64 l3, u64 l4, u64 l5, u64 
     t0 = l0 & t0;
     w0 = t0 != l0;
     if (w0) goto L23;
-    t0 = f106(m, l23, l20, l19, l28, l25);
+    t0 = f108(m, l23, l20, l19, l28, l25);
     l0 = t0;
     I32_STORE8(m, l31, l25);
     l8 = 0ull;
@@ -117308,7 +116258,7 @@ static u32 f330(Machine *m, u64 l0, u64 l1, u64 l2, u64 l3, u64 l4, u64 l5, u64 
     I32_STORE8(m, l9 + 128u, w0);
     t0 = l9 + 112ull;
     t1 = l9 + 232ull;
-    w0 = f105(m, l23, l20, l19, t0, t1);
+    w0 = f107(m, l23, l20, l19, t0, t1);
     w0 = w0 & 255u;
     if (w0) goto L28;
     t0 = l8 + 1ull;
@@ -117378,7 +116328,7 @@ static u32 f330(Machine *m, u64 l0, u64 l1, u64 l2, u64 l3, u64 l4, u64 l5, u64 
     w0 = t0 != l15;
     if (w0) goto L33;
     t0 = l9 + 80ull;
-    w0 = f111(m, t0);
+    w0 = f113(m, t0);
     if (w0) goto L34;
     l35 = 0u;
     goto L31;
@@ -117799,7 +116749,7 @@ static u32 f330(Machine *m, u64 l0, u64 l1, u64 l2, u64 l3, u64 l4, u64 l5, u64 
     t0 = l9 + 176ull;
     t1 = l9 + 32ull;
     t2 = l9 + 80ull;
-    f109(m, t0, t1, l12, l1, t2);
+    f111(m, t0, t1, l12, l1, t2);
     w0 = I32_LOAD8_U(m, l9 + 176u);
     if (w0) goto L56;
     I32_STORE8(m, l9 + 121u, l25);
@@ -117815,7 +116765,7 @@ static u32 f330(Machine *m, u64 l0, u64 l1, u64 l2, u64 l3, u64 l4, u64 l5, u64 
     l17 = t2;
     t2 = I64_LOAD(m, l9 + 192u);
     t3 = l9 + 112ull;
-    f109(m, t0, t1, l17, t2, t3);
+    f111(m, t0, t1, l17, t2, t3);
     w0 = I32_LOAD8_U(m, l9 + 136u);
     if (w0) goto L55;
     t0 = I64_LOAD(m, l9 + 168u);
@@ -117838,7 +116788,7 @@ static u32 f330(Machine *m, u64 l0, u64 l1, u64 l2, u64 l3, u64 l4, u64 l5, u64 
     w0 = t0 != l10;
     if (w0) goto L59;
     t0 = l9 + 232ull;
-    w0 = f112(m, t0);
+    w0 = f114(m, t0);
     w0 = w0 == 0;
     if (w0) goto L54;
     t0 = I64_LOAD(m, l9 + 232u);
@@ -118731,19 +117681,19 @@ static u32 of_bech32_liquid_nearest(Machine *m, u64 l0, u64 l1, u64 l2, u64 l3, 
     TRAP(m);
     return 0;
     L0:;
-    w0 = f332(m, l0, l1, l2, l3, l4, l5, l6, l7, l8);
+    w0 = f326(m, l0, l1, l2, l3, l4, l5, l6, l7, l8);
     l9 = w0;
     LEAVE(m);
     return l9;
 }
 
 /* rattle::export bech32_liquid_nearest */
-static u32 f332(Machine *m, u64 l0, u64 l1, u64 l2, u64 l3, u64 l4, u64 l5, u64 l6, u64 l7, u64 l8) {
+static u32 f326(Machine *m, u64 l0, u64 l1, u64 l2, u64 l3, u64 l4, u64 l5, u64 l6, u64 l7, u64 l8) {
     u32 l13 = 0, l21 = 0, l22 = 0, l23 = 0, l24 = 0, l25 = 0, l26 = 0, l27 = 0, l28 = 0, l29 = 0, l30 = 0, l31 = 0, l32 = 0, l33 = 0, l34 = 0, l35 = 0;
     u32 l36 = 0, l37 = 0, l38 = 0, l39 = 0, l40 = 0, l41 = 0, l42 = 0, l43 = 0, l44 = 0, l45 = 0, l46 = 0, w0, w1, w2, w3;
     u64 l9 = 0, l10 = 0, l11 = 0, l12 = 0, l14 = 0, l15 = 0, l16 = 0, l17 = 0, l18 = 0, l19 = 0, l20 = 0, l47 = 0, l48 = 0, l49 = 0, l50 = 0, l51 = 0;
     u64 l52 = 0, l53 = 0, l54 = 0, l55 = 0, l56 = 0, l57 = 0, l58 = 0, l59 = 0, l60 = 0, l61 = 0, l62 = 0, l63 = 0, l64 = 0, l65 = 0, l66 = 0, l67 = 0;
-    u64 l68 = 0, l69 = 0, l70 = 0, l71 = 0, l72 = 0, t0, t1, t2, t3, t4;
+    u64 l68 = 0, l69 = 0, l70 = 0, l71 = 0, l72 = 0, l73 = 0, l74 = 0, t0, t1, t2, t3, t4;
     FRAME(m, 880u);
     t0 = m->stack_pointer;
     t0 = t0 - 880ull;
@@ -118757,9 +117707,9 @@ static u32 f332(Machine *m, u64 l0, u64 l1, u64 l2, u64 l3, u64 l4, u64 l5, u64 
     l10 = t0;
     t0 = l4 << 1;
     t0 = 7ull - t0;
-    w0 = f113(m, l10, l3, t0);
+    w0 = f115(m, l10, l3, t0);
     if (w0) goto L24;
-    w0 = f113(m, l10, l3, 6ull);
+    w0 = f115(m, l10, l3, 6ull);
     if (w0) goto L17;
     L24:;
     w0 = l0 == 0;
@@ -118813,8 +117763,8 @@ static u32 f332(Machine *m, u64 l0, u64 l1, u64 l2, u64 l3, u64 l4, u64 l5, u64 
     w0 = I32_LOAD8_U(m, t0);
     w0 = w0 != 49u;
     if (w0) goto L26;
-    I64_STORE(m, l9 + 568u, 1ull);
-    t0 = l9 + 568ull;
+    I64_STORE(m, l9 + 672u, 1ull);
+    t0 = l9 + 672ull;
     f88(m, t0, l0, l2);
     t0 = l2 + 1ull;
     l2 = t0;
@@ -118825,10 +117775,10 @@ static u32 f332(Machine *m, u64 l0, u64 l1, u64 l2, u64 l3, u64 l4, u64 l5, u64 
     t0 = l11 & 18446744073709551608ull;
     t0 = l14 + t0;
     l15 = t0;
-    t0 = l9 + 568ull;
+    t0 = l9 + 672ull;
     t0 = f89(m, l14, l11, t0);
     l16 = t0;
-    t0 = I64_LOAD(m, l9 + 568u);
+    t0 = I64_LOAD(m, l9 + 672u);
     l14 = t0;
     t0 = l11 & 7ull;
     l17 = t0;
@@ -119096,47 +118046,47 @@ static u32 f332(Machine *m, u64 l0, u64 l1, u64 l2, u64 l3, u64 l4, u64 l5, u64 
     if (w0) goto L25;
     L26:;
     l2 = 0ull;
-    I64_STORE(m, l9 + 296u, 0ull);
-    I64_STORE(m, l9 + 288u, 0ull);
-    I64_STORE(m, l9 + 280u, 0ull);
-    t0 = l9 + 280ull;
+    I64_STORE(m, l9 + 368u, 0ull);
+    I64_STORE(m, l9 + 360u, 0ull);
+    I64_STORE(m, l9 + 352u, 0ull);
+    t0 = l9 + 352ull;
     f5(m, t0, l0, l1);
     l21 = 0u;
     l1 = 0ull;
     l22 = 0u;
-    w0 = I32_LOAD8_U(m, l9 + 280u);
+    w0 = I32_LOAD8_U(m, l9 + 352u);
     if (w0) goto L19;
-    t0 = I64_LOAD(m, l9 + 296u);
+    t0 = I64_LOAD(m, l9 + 368u);
     l1 = t0;
-    t0 = I64_LOAD(m, l9 + 288u);
+    t0 = I64_LOAD(m, l9 + 360u);
     l0 = t0;
-    I64_STORE(m, l9 + 600u, 0ull);
-    I64_STORE(m, l9 + 592u, 0ull);
-    I64_STORE(m, l9 + 584u, 0ull);
-    I64_STORE(m, l9 + 576u, 0ull);
-    I64_STORE(m, l9 + 568u, 0ull);
-    t0 = l9 + 568ull;
+    I64_STORE(m, l9 + 704u, 0ull);
+    I64_STORE(m, l9 + 696u, 0ull);
+    I64_STORE(m, l9 + 688u, 0ull);
+    I64_STORE(m, l9 + 680u, 0ull);
+    I64_STORE(m, l9 + 672u, 0ull);
+    t0 = l9 + 672ull;
     f9(m, t0, l0, l1);
-    t0 = I64_LOAD(m, l9 + 592u);
+    t0 = I64_LOAD(m, l9 + 696u);
     l12 = t0;
-    w0 = I32_LOAD8_U(m, l9 + 568u);
+    w0 = I32_LOAD8_U(m, l9 + 672u);
     w0 = w0 == 0;
     if (w0) goto L32;
-    t0 = I64_LOAD8_U(m, l9 + 580u);
+    t0 = I64_LOAD8_U(m, l9 + 684u);
     t0 = t0 << 32;
-    t1 = I64_LOAD8_U(m, l9 + 576u);
+    t1 = I64_LOAD8_U(m, l9 + 680u);
     t0 = t0 | t1;
     l2 = t0;
-    t0 = I64_LOAD(m, l9 + 584u);
+    t0 = I64_LOAD(m, l9 + 688u);
     l1 = t0;
     w0 = (u32)l12;
     l21 = w0;
     l22 = 8u;
     goto L19;
     L32:;
-    t0 = I64_LOAD(m, l9 + 576u);
-    t1 = I64_LOAD(m, l9 + 584u);
-    t2 = I64_LOAD(m, l9 + 600u);
+    t0 = I64_LOAD(m, l9 + 680u);
+    t1 = I64_LOAD(m, l9 + 688u);
+    t2 = I64_LOAD(m, l9 + 704u);
     l11 = t2;
     t0 = f91(m, t0, t1, l12, l11);
     l14 = t0;
@@ -119176,18 +118126,18 @@ static u32 f332(Machine *m, u64 l0, u64 l1, u64 l2, u64 l3, u64 l4, u64 l5, u64 
     w0 = w0 == 0;
     if (w0) goto L35;
     L21:;
-    w0 = f113(m, l10, l3, 6ull);
+    w0 = f115(m, l10, l3, 6ull);
     w0 = w0 == 0;
     if (w0) goto L20;
     t0 = I64_LOAD(m, l5 + 8u);
     l2 = t0;
     I64_STORE(m, l5 + 8u, 0ull);
-    I64_STORE(m, l9 + 72u, 1ull);
-    I64_STORE(m, l9 + 96u, l2);
+    I64_STORE(m, l9 + 64u, 1ull);
     I64_STORE(m, l9 + 88u, l2);
+    I64_STORE(m, l9 + 80u, l2);
     t0 = I64_LOAD(m, l5);
     l17 = t0;
-    I64_STORE(m, l9 + 80u, l17);
+    I64_STORE(m, l9 + 72u, l17);
     t0 = l2 + 16ull;
     l12 = t0;
     w0 = l12 < l2;
@@ -119239,9 +118189,9 @@ static u32 f332(Machine *m, u64 l0, u64 l1, u64 l2, u64 l3, u64 l4, u64 l5, u64 
     t0 = l2 & 18446744073709551600ull;
     w0 = l18 > t0;
     if (w0) goto L36;
-    I64_STORE(m, l9 + 88u, 0ull);
     I64_STORE(m, l9 + 80u, 0ull);
     I64_STORE(m, l9 + 72u, 0ull);
+    I64_STORE(m, l9 + 64u, 0ull);
     t0 = l16 + 18446744073709551552ull;
     l2 = t0;
     t0 = l17 + l2;
@@ -119254,66 +118204,66 @@ static u32 f332(Machine *m, u64 l0, u64 l1, u64 l2, u64 l3, u64 l4, u64 l5, u64 
     I64_STORE(m, l12, l17);
     l15 = 1ull;
     L36:;
+    I64_STORE(m, l9 + 40u, 0ull);
+    I64_STORE(m, l9 + 32u, l15);
+    I64_STORE(m, l9 + 24u, l12);
     I64_STORE(m, l9 + 48u, 0ull);
-    I64_STORE(m, l9 + 40u, l15);
-    I64_STORE(m, l9 + 32u, l12);
     I64_STORE(m, l9 + 56u, 0ull);
-    I64_STORE(m, l9 + 64u, 0ull);
-    t0 = l9 + 72ull;
-    I64_STORE(m, l9 + 24u, t0);
+    t0 = l9 + 64ull;
+    I64_STORE(m, l9 + 16u, t0);
     l13 = 0u;
-    t0 = l9 + 280ull;
+    t0 = l9 + 352ull;
     MEMORY_FILL(m, t0, 0u, 160ull);
-    t0 = l9 + 208ull;
+    t0 = l9 + 280ull;
     MEMORY_FILL(m, t0, 0u, 72ull);
-    I64_STORE(m, l9 + 864u, 0ull);
-    I64_STORE(m, l9 + 856u, 0ull);
-    I64_STORE(m, l9 + 848u, 0ull);
-    I64_STORE(m, l9 + 840u, 0ull);
-    I64_STORE(m, l9 + 776u, 0ull);
-    I64_STORE(m, l9 + 781u, 0ull);
-    I32_STORE(m, l9 + 200u, 0u);
-    I32_STORE(m, l9 + 203u, 0u);
-    t0 = l9 + 568ull;
+    I64_STORE(m, l9 + 272u, 0ull);
+    I64_STORE(m, l9 + 264u, 0ull);
+    I64_STORE(m, l9 + 256u, 0ull);
+    I64_STORE(m, l9 + 248u, 0ull);
+    I64_STORE(m, l9 + 232u, 0ull);
+    I64_STORE(m, l9 + 237u, 0ull);
+    I32_STORE(m, l9 + 224u, 0u);
+    I32_STORE(m, l9 + 227u, 0u);
+    t0 = l9 + 672ull;
     MEMORY_FILL(m, t0, 0u, 96ull);
-    I64_STORE(m, l9 + 480u, 0ull);
-    I64_STORE(m, l9 + 472u, 0ull);
-    I64_STORE(m, l9 + 464u, 0ull);
-    I64_STORE(m, l9 + 456u, 0ull);
-    I64_STORE(m, l9 + 448u, 0ull);
-    I64_STORE(m, l9 + 440u, 0ull);
-    t0 = l9 + 568ull;
-    t1 = l9 + 24ull;
-    f114(m, t0, t1, l10, l3, l11);
-    w0 = I32_LOAD8_U(m, l9 + 568u);
+    I64_STORE(m, l9 + 552u, 0ull);
+    I64_STORE(m, l9 + 544u, 0ull);
+    I64_STORE(m, l9 + 536u, 0ull);
+    I64_STORE(m, l9 + 528u, 0ull);
+    I64_STORE(m, l9 + 520u, 0ull);
+    I64_STORE(m, l9 + 512u, 0ull);
+    t0 = l9 + 672ull;
+    t1 = l9 + 16ull;
+    f116(m, t0, t1, l10, l3, l11);
+    w0 = I32_LOAD8_U(m, l9 + 672u);
     if (w0) goto L44;
-    w0 = I32_LOAD8_U(m, l9 + 576u);
+    w0 = I32_LOAD8_U(m, l9 + 680u);
     w0 = w0 != 1u;
     if (w0) goto L43;
-    w0 = I32_LOAD8_U(m, l9 + 584u);
+    w0 = I32_LOAD8_U(m, l9 + 688u);
     l13 = w0;
     t0 = (u64)l13;
     t0 = t0 & 255ull;
     l12 = t0;
-    I64_STORE(m, l9 + 488u, l12);
-    t0 = l9 + 496ull;
+    I64_STORE(m, l9 + 560u, l12);
+    t0 = l9 + 568ull;
     l2 = t0;
-    t0 = l9 + 592ull;
+    t0 = l9 + 696ull;
     l3 = t0;
     MEMORY_COPY(m, l2, l3, 72ull);
-    t0 = l9 + 440ull;
-    t1 = l9 + 24ull;
-    t2 = I64_LOAD(m, l9 + 496u);
+    t0 = l9 + 512ull;
+    t1 = l9 + 16ull;
+    t2 = I64_LOAD(m, l9 + 568u);
     l10 = t2;
     w0 = l13 & 255u;
     l13 = w0;
     t2 = l13 ? l10 : l2;
-    t3 = l9 + 488ull;
+    t3 = l9 + 560ull;
     t4 = l13 ? 16ull : 64ull;
     t3 = t3 + t4;
     t3 = I64_LOAD(m, t3);
     f119(m, t0, t1, 286u, t2, t3);
-    w0 = I32_LOAD8_U(m, l9 + 440u);
+    w0 = I32_LOAD8_U(m, l9 + 512u);
     if (w0) goto L45;
     t0 = l14 >> 55;
     w0 = (u32)t0;
@@ -119359,33 +118309,33 @@ static u32 f332(Machine *m, u64 l0, u64 l1, u64 l2, u64 l3, u64 l4, u64 l5, u64 
     w0 = l13 & 31u;
     w0 = w0 ^ 1u;
     l13 = w0;
-    t0 = I64_LOAD8_U(m, l9 + 448u);
+    t0 = I64_LOAD8_U(m, l9 + 520u);
     l10 = t0;
-    t0 = l9 + 128ull;
+    t0 = l9 + 152ull;
     MEMORY_COPY(m, t0, l3, 72ull);
-    I64_STORE(m, l9 + 112u, 0ull);
-    I64_STORE(m, l9 + 117u, 0ull);
-    I32_STORE(m, l9 + 104u, 0u);
-    I32_STORE(m, l9 + 107u, 0u);
-    t0 = I64_LOAD(m, l9 + 480u);
-    I64_STORE(m, l9 + 832u, t0);
-    t0 = I64_LOAD(m, l9 + 472u);
-    I64_STORE(m, l9 + 824u, t0);
-    t0 = I64_LOAD(m, l9 + 464u);
-    I64_STORE(m, l9 + 816u, t0);
-    t0 = I64_LOAD(m, l9 + 456u);
-    I64_STORE(m, l9 + 808u, t0);
+    I64_STORE(m, l9 + 104u, 0ull);
+    I64_STORE(m, l9 + 109u, 0ull);
+    I32_STORE(m, l9 + 96u, 0u);
+    I32_STORE(m, l9 + 99u, 0u);
+    t0 = I64_LOAD(m, l9 + 552u);
+    I64_STORE(m, l9 + 144u, t0);
+    t0 = I64_LOAD(m, l9 + 544u);
+    I64_STORE(m, l9 + 136u, t0);
+    t0 = I64_LOAD(m, l9 + 536u);
+    I64_STORE(m, l9 + 128u, t0);
+    t0 = I64_LOAD(m, l9 + 528u);
+    I64_STORE(m, l9 + 120u, t0);
     l34 = 1u;
     l22 = 1u;
     goto L40;
     L45:;
     w0 = l13 != 1u;
     if (w0) goto L46;
-    t0 = I64_LOAD(m, l9 + 512u);
+    t0 = I64_LOAD(m, l9 + 584u);
     l3 = t0;
     w0 = l3 == 0;
     if (w0) goto L46;
-    t0 = I64_LOAD(m, l9 + 520u);
+    t0 = I64_LOAD(m, l9 + 592u);
     l2 = t0;
     t0 = l2 + 16ull;
     t0 = I64_LOAD(m, t0);
@@ -119413,26 +118363,26 @@ static u32 f332(Machine *m, u64 l0, u64 l1, u64 l2, u64 l3, u64 l4, u64 l5, u64 
     I64_STORE(m, l2, t0);
     L46:;
     l13 = 0u;
-    t0 = l9 + 128ull;
+    t0 = l9 + 152ull;
     MEMORY_FILL(m, t0, 0u, 72ull);
     goto L42;
     L44:;
-    t0 = l9 + 128ull;
+    t0 = l9 + 152ull;
     MEMORY_FILL(m, t0, 0u, 72ull);
     goto L42;
     L43:;
     l13 = 0u;
-    t0 = l9 + 128ull;
+    t0 = l9 + 152ull;
     MEMORY_FILL(m, t0, 0u, 72ull);
     l12 = 0ull;
-    I64_STORE(m, l9 + 832u, 0ull);
-    I64_STORE(m, l9 + 824u, 0ull);
-    I64_STORE(m, l9 + 816u, 0ull);
-    I64_STORE(m, l9 + 808u, 0ull);
-    I64_STORE(m, l9 + 112u, 0ull);
-    I64_STORE(m, l9 + 117u, 0ull);
-    I32_STORE(m, l9 + 104u, 0u);
-    I32_STORE(m, l9 + 107u, 0u);
+    I64_STORE(m, l9 + 144u, 0ull);
+    I64_STORE(m, l9 + 136u, 0ull);
+    I64_STORE(m, l9 + 128u, 0ull);
+    I64_STORE(m, l9 + 120u, 0ull);
+    I64_STORE(m, l9 + 104u, 0ull);
+    I64_STORE(m, l9 + 109u, 0ull);
+    I32_STORE(m, l9 + 96u, 0u);
+    I32_STORE(m, l9 + 99u, 0u);
     l22 = 1u;
     l33 = 0u;
     l32 = 0u;
@@ -119448,14 +118398,14 @@ static u32 f332(Machine *m, u64 l0, u64 l1, u64 l2, u64 l3, u64 l4, u64 l5, u64 
     goto L41;
     L42:;
     l12 = 0ull;
-    I64_STORE(m, l9 + 832u, 0ull);
-    I64_STORE(m, l9 + 824u, 0ull);
-    I64_STORE(m, l9 + 816u, 0ull);
-    I64_STORE(m, l9 + 808u, 0ull);
-    I64_STORE(m, l9 + 112u, 0ull);
-    I64_STORE(m, l9 + 117u, 0ull);
-    I32_STORE(m, l9 + 104u, l13);
-    I32_STORE(m, l9 + 107u, l13);
+    I64_STORE(m, l9 + 144u, 0ull);
+    I64_STORE(m, l9 + 136u, 0ull);
+    I64_STORE(m, l9 + 128u, 0ull);
+    I64_STORE(m, l9 + 120u, 0ull);
+    I64_STORE(m, l9 + 104u, 0ull);
+    I64_STORE(m, l9 + 109u, 0ull);
+    I32_STORE(m, l9 + 96u, l13);
+    I32_STORE(m, l9 + 99u, l13);
     l33 = 0u;
     l32 = 0u;
     l31 = 0u;
@@ -119474,17 +118424,17 @@ static u32 f332(Machine *m, u64 l0, u64 l1, u64 l2, u64 l3, u64 l4, u64 l5, u64 
     l11 = 0ull;
     L40:;
     l35 = 0u;
-    t0 = l9 + 568ull;
+    t0 = l9 + 672ull;
     MEMORY_FILL(m, t0, 0u, 72ull);
     l2 = 0ull;
+    I64_STORE(m, l9 + 584u, 0ull);
+    I64_STORE(m, l9 + 576u, 0ull);
+    I64_STORE(m, l9 + 568u, 0ull);
+    I64_STORE(m, l9 + 560u, 0ull);
     I64_STORE(m, l9 + 512u, 0ull);
-    I64_STORE(m, l9 + 504u, 0ull);
-    I64_STORE(m, l9 + 496u, 0ull);
-    I64_STORE(m, l9 + 488u, 0ull);
-    I64_STORE(m, l9 + 440u, 0ull);
-    I64_STORE(m, l9 + 445u, 0ull);
-    I32_STORE(m, l9 + 736u, 0u);
-    I32_STORE(m, l9 + 739u, 0u);
+    I64_STORE(m, l9 + 517u, 0ull);
+    I32_STORE(m, l9 + 840u, 0u);
+    I32_STORE(m, l9 + 843u, 0u);
     l21 = 0u;
     l36 = 0u;
     l37 = 0u;
@@ -119501,25 +118451,25 @@ static u32 f332(Machine *m, u64 l0, u64 l1, u64 l2, u64 l3, u64 l4, u64 l5, u64 
     l46 = 0u;
     w0 = l22 == 0;
     if (w0) goto L48;
-    t0 = l9 + 568ull;
-    t1 = l9 + 128ull;
+    t0 = l9 + 672ull;
+    t1 = l9 + 152ull;
     MEMORY_COPY(m, t0, t1, 72ull);
-    t0 = I64_LOAD(m, l9 + 832u);
+    t0 = I64_LOAD(m, l9 + 144u);
+    I64_STORE(m, l9 + 584u, t0);
+    t0 = I64_LOAD(m, l9 + 136u);
+    I64_STORE(m, l9 + 576u, t0);
+    t0 = I64_LOAD(m, l9 + 128u);
+    I64_STORE(m, l9 + 568u, t0);
+    t0 = I64_LOAD(m, l9 + 120u);
+    I64_STORE(m, l9 + 560u, t0);
+    t0 = I64_LOAD(m, l9 + 104u);
     I64_STORE(m, l9 + 512u, t0);
-    t0 = I64_LOAD(m, l9 + 824u);
-    I64_STORE(m, l9 + 504u, t0);
-    t0 = I64_LOAD(m, l9 + 816u);
-    I64_STORE(m, l9 + 496u, t0);
-    t0 = I64_LOAD(m, l9 + 808u);
-    I64_STORE(m, l9 + 488u, t0);
-    t0 = I64_LOAD(m, l9 + 112u);
-    I64_STORE(m, l9 + 440u, t0);
-    t0 = I64_LOAD(m, l9 + 117u);
-    I64_STORE(m, l9 + 445u, t0);
-    w0 = I32_LOAD(m, l9 + 104u);
-    I32_STORE(m, l9 + 736u, w0);
-    w0 = I32_LOAD(m, l9 + 107u);
-    I32_STORE(m, l9 + 739u, w0);
+    t0 = I64_LOAD(m, l9 + 109u);
+    I64_STORE(m, l9 + 517u, t0);
+    w0 = I32_LOAD(m, l9 + 96u);
+    I32_STORE(m, l9 + 840u, w0);
+    w0 = I32_LOAD(m, l9 + 99u);
+    I32_STORE(m, l9 + 843u, w0);
     l35 = l32;
     l21 = l31;
     l36 = l30;
@@ -119537,72 +118487,72 @@ static u32 f332(Machine *m, u64 l0, u64 l1, u64 l2, u64 l3, u64 l4, u64 l5, u64 
     l18 = l11;
     l46 = l34;
     L48:;
-    t0 = l9 + 208ull;
-    t1 = l9 + 568ull;
+    t0 = l9 + 280ull;
+    t1 = l9 + 672ull;
     MEMORY_COPY(m, t0, t1, 72ull);
+    t0 = I64_LOAD(m, l9 + 584u);
+    I64_STORE(m, l9 + 272u, t0);
+    t0 = I64_LOAD(m, l9 + 576u);
+    I64_STORE(m, l9 + 264u, t0);
+    t0 = I64_LOAD(m, l9 + 568u);
+    I64_STORE(m, l9 + 256u, t0);
+    t0 = I64_LOAD(m, l9 + 560u);
+    I64_STORE(m, l9 + 248u, t0);
     t0 = I64_LOAD(m, l9 + 512u);
-    I64_STORE(m, l9 + 864u, t0);
-    t0 = I64_LOAD(m, l9 + 504u);
-    I64_STORE(m, l9 + 856u, t0);
-    t0 = I64_LOAD(m, l9 + 496u);
-    I64_STORE(m, l9 + 848u, t0);
-    t0 = I64_LOAD(m, l9 + 488u);
-    I64_STORE(m, l9 + 840u, t0);
-    t0 = I64_LOAD(m, l9 + 440u);
-    I64_STORE(m, l9 + 776u, t0);
-    t0 = I64_LOAD(m, l9 + 445u);
-    I64_STORE(m, l9 + 781u, t0);
-    w0 = I32_LOAD(m, l9 + 736u);
-    I32_STORE(m, l9 + 200u, w0);
-    w0 = I32_LOAD(m, l9 + 739u);
-    I32_STORE(m, l9 + 203u, w0);
+    I64_STORE(m, l9 + 232u, t0);
+    t0 = I64_LOAD(m, l9 + 517u);
+    I64_STORE(m, l9 + 237u, t0);
+    w0 = I32_LOAD(m, l9 + 840u);
+    I32_STORE(m, l9 + 224u, w0);
+    w0 = I32_LOAD(m, l9 + 843u);
+    I32_STORE(m, l9 + 227u, w0);
     w0 = l22 == 0;
     if (w0) goto L50;
     if (l46) goto L52;
     t0 = l9 + 872ull;
     l47 = t0;
     l48 = 0ull;
-    t0 = l9 + 24ull;
+    t0 = l9 + 16ull;
     l49 = t0;
-    l16 = 0ull;
+    l14 = 0ull;
     goto L51;
     L52:;
-    I64_STORE(m, l9 + 280u, l2);
-    t0 = l9 + 288ull;
+    I64_STORE(m, l9 + 352u, l2);
+    t0 = l9 + 360ull;
     l50 = t0;
-    t0 = l9 + 208ull;
-    MEMORY_COPY(m, l50, t0, 72ull);
-    I64_STORE(m, l9 + 360u, l3);
-    I32_STORE8(m, l9 + 411u, l43);
-    I32_STORE8(m, l9 + 410u, l42);
-    I32_STORE8(m, l9 + 409u, l41);
-    I32_STORE8(m, l9 + 408u, l40);
-    I32_STORE8(m, l9 + 407u, l39);
-    I32_STORE8(m, l9 + 406u, l38);
-    I32_STORE8(m, l9 + 405u, l37);
-    I32_STORE8(m, l9 + 404u, l36);
-    I32_STORE8(m, l9 + 403u, l21);
-    I32_STORE8(m, l9 + 402u, l35);
-    I32_STORE8(m, l9 + 401u, l44);
-    I32_STORE8(m, l9 + 400u, l45);
-    t0 = I64_LOAD(m, l9 + 840u);
-    I64_STORE(m, l9 + 368u, t0);
-    t0 = I64_LOAD(m, l9 + 848u);
-    I64_STORE(m, l9 + 376u, t0);
-    t0 = I64_LOAD(m, l9 + 856u);
-    I64_STORE(m, l9 + 384u, t0);
-    t0 = I64_LOAD(m, l9 + 864u);
-    I64_STORE(m, l9 + 392u, t0);
-    I64_STORE(m, l9 + 432u, l18);
-    w0 = I32_LOAD(m, l9 + 203u);
-    I32_STORE(m, l9 + 428u, w0);
-    w0 = I32_LOAD(m, l9 + 200u);
-    I32_STORE(m, l9 + 425u, w0);
-    t0 = I64_LOAD(m, l9 + 781u);
-    I64_STORE(m, l9 + 417u, t0);
-    t0 = I64_LOAD(m, l9 + 776u);
-    I64_STORE(m, l9 + 412u, t0);
     t0 = l9 + 280ull;
+    MEMORY_COPY(m, l50, t0, 72ull);
+    I64_STORE(m, l9 + 432u, l3);
+    I32_STORE8(m, l9 + 483u, l43);
+    I32_STORE8(m, l9 + 482u, l42);
+    I32_STORE8(m, l9 + 481u, l41);
+    I32_STORE8(m, l9 + 480u, l40);
+    I32_STORE8(m, l9 + 479u, l39);
+    I32_STORE8(m, l9 + 478u, l38);
+    I32_STORE8(m, l9 + 477u, l37);
+    I32_STORE8(m, l9 + 476u, l36);
+    I32_STORE8(m, l9 + 475u, l21);
+    I32_STORE8(m, l9 + 474u, l35);
+    I32_STORE8(m, l9 + 473u, l44);
+    I32_STORE8(m, l9 + 472u, l45);
+    t0 = I64_LOAD(m, l9 + 248u);
+    I64_STORE(m, l9 + 440u, t0);
+    t0 = I64_LOAD(m, l9 + 256u);
+    I64_STORE(m, l9 + 448u, t0);
+    t0 = I64_LOAD(m, l9 + 264u);
+    I64_STORE(m, l9 + 456u, t0);
+    t0 = I64_LOAD(m, l9 + 272u);
+    I64_STORE(m, l9 + 464u, t0);
+    I64_STORE(m, l9 + 504u, l18);
+    w0 = I32_LOAD(m, l9 + 227u);
+    I32_STORE(m, l9 + 500u, w0);
+    w0 = I32_LOAD(m, l9 + 224u);
+    I32_STORE(m, l9 + 497u, w0);
+    t0 = I64_LOAD(m, l9 + 237u);
+    I64_STORE(m, l9 + 489u, t0);
+    t0 = I64_LOAD(m, l9 + 232u);
+    I64_STORE(m, l9 + 484u, t0);
+    t0 = l9 + 352ull;
     w0 = l2 == 0;
     l13 = w0;
     t1 = l13 ? 64ull : 16ull;
@@ -119616,27 +118566,27 @@ static u32 f332(Machine *m, u64 l0, u64 l1, u64 l2, u64 l3, u64 l4, u64 l5, u64 
     t0 = t0 >> 1;
     w0 = l4 > t0;
     if (w0) goto L57;
-    t0 = l9 + 568ull;
+    t0 = l9 + 672ull;
     MEMORY_FILL(m, t0, 0u, 152ull);
-    t0 = l9 + 568ull;
-    t1 = l9 + 280ull;
+    t0 = l9 + 672ull;
+    t1 = l9 + 352ull;
     f123(m, t0, t1);
-    w0 = I32_LOAD8_U(m, l9 + 568u);
+    w0 = I32_LOAD8_U(m, l9 + 672u);
     if (w0) goto L59;
-    w0 = I32_LOAD8_U(m, l9 + 576u);
+    w0 = I32_LOAD8_U(m, l9 + 680u);
     w0 = w0 != 1u;
     if (w0) goto L60;
-    t0 = I64_LOAD(m, l9 + 616u);
+    t0 = I64_LOAD(m, l9 + 720u);
     l2 = t0;
-    t0 = I64_LOAD(m, l9 + 608u);
+    t0 = I64_LOAD(m, l9 + 712u);
     l11 = t0;
-    t0 = I64_LOAD(m, l9 + 592u);
+    t0 = I64_LOAD(m, l9 + 696u);
     l10 = t0;
-    t0 = I64_LOAD(m, l9 + 600u);
-    l14 = t0;
     t0 = I64_LOAD(m, l9 + 704u);
+    l14 = t0;
+    t0 = I64_LOAD(m, l9 + 808u);
     l15 = t0;
-    w0 = I32_LOAD8_U(m, l9 + 584u);
+    w0 = I32_LOAD8_U(m, l9 + 688u);
     l22 = w0;
     w0 = l22 & 255u;
     l13 = w0;
@@ -119677,8 +118627,8 @@ static u32 f332(Machine *m, u64 l0, u64 l1, u64 l2, u64 l3, u64 l4, u64 l5, u64 
     t0 = t0 + 18446744073709551615ull;
     I64_STORE(m, l4, t0);
     L60:;
-    t0 = l9 + 280ull;
-    w0 = I32_LOAD8_U(m, l9 + 280u);
+    t0 = l9 + 352ull;
+    w0 = I32_LOAD8_U(m, l9 + 352u);
     t1 = w0 ? 32ull : 72ull;
     t0 = t0 + t1;
     t0 = I64_LOAD(m, t0);
@@ -119687,30 +118637,30 @@ static u32 f332(Machine *m, u64 l0, u64 l1, u64 l2, u64 l3, u64 l4, u64 l5, u64 
     l47 = t0;
     l22 = 0u;
     l48 = 0ull;
-    l16 = 0ull;
+    l14 = 0ull;
     goto L53;
     L59:;
     l48 = 0ull;
     l22 = 1u;
     goto L55;
     L58:;
-    t0 = I64_LOAD(m, l9 + 712u);
+    t0 = I64_LOAD(m, l9 + 816u);
     l3 = t0;
-    t0 = l9 + 488ull;
-    t1 = l9 + 624ull;
+    t0 = l9 + 560ull;
+    t1 = l9 + 728ull;
     MEMORY_COPY(m, t0, t1, 80ull);
-    I64_STORE(m, l9 + 448u, 0ull);
-    I64_STORE(m, l9 + 456u, 0ull);
-    t0 = l9 + 280ull;
-    w0 = I32_LOAD8_U(m, l9 + 280u);
+    I64_STORE(m, l9 + 520u, 0ull);
+    I64_STORE(m, l9 + 528u, 0ull);
+    t0 = l9 + 352ull;
+    w0 = I32_LOAD8_U(m, l9 + 352u);
     t1 = w0 ? 32ull : 72ull;
     t0 = t0 + t1;
     t0 = I64_LOAD(m, t0);
-    I64_STORE(m, l9 + 464u, t0);
+    I64_STORE(m, l9 + 536u, t0);
     t0 = l9 + 872ull;
-    I64_STORE(m, l9 + 440u, t0);
-    t0 = l9 + 440ull;
-    w0 = f134(m, t0);
+    I64_STORE(m, l9 + 512u, t0);
+    t0 = l9 + 512ull;
+    w0 = f135(m, t0);
     if (w0) goto L54;
     w0 = l22 & 255u;
     w0 = w0 == 0;
@@ -119742,13 +118692,13 @@ static u32 f332(Machine *m, u64 l0, u64 l1, u64 l2, u64 l3, u64 l4, u64 l5, u64 
     t0 = t0 + 18446744073709551615ull;
     I64_STORE(m, l4, t0);
     L62:;
-    t0 = I64_LOAD(m, l9 + 464u);
+    t0 = I64_LOAD(m, l9 + 536u);
     l14 = t0;
-    t0 = I64_LOAD(m, l9 + 456u);
+    t0 = I64_LOAD(m, l9 + 528u);
     l15 = t0;
-    t0 = I64_LOAD(m, l9 + 440u);
+    t0 = I64_LOAD(m, l9 + 512u);
     l16 = t0;
-    t0 = I64_LOAD(m, l9 + 448u);
+    t0 = I64_LOAD(m, l9 + 520u);
     l2 = t0;
     w0 = l2 == 0;
     if (w0) goto L64;
@@ -119828,18 +118778,18 @@ static u32 f332(Machine *m, u64 l0, u64 l1, u64 l2, u64 l3, u64 l4, u64 l5, u64 
     I64_STORE(m, l4, t0);
     goto L56;
     L57:;
-    l16 = 0ull;
-    I64_STORE(m, l9 + 744u, 0ull);
-    I64_STORE(m, l9 + 752u, 0ull);
-    t0 = I64_LOAD(m, l9 + 352u);
+    l14 = 0ull;
+    I64_STORE(m, l9 + 648u, 0ull);
+    I64_STORE(m, l9 + 656u, 0ull);
+    t0 = I64_LOAD(m, l9 + 424u);
     l3 = t0;
-    t0 = I64_LOAD(m, l9 + 312u);
+    t0 = I64_LOAD(m, l9 + 384u);
     l12 = t0;
     t0 = l13 ? l3 : l12;
     l49 = t0;
-    I64_STORE(m, l9 + 760u, l49);
+    I64_STORE(m, l9 + 664u, l49);
     t0 = l9 + 872ull;
-    I64_STORE(m, l9 + 736u, t0);
+    I64_STORE(m, l9 + 640u, t0);
     t0 = l9 + 872ull;
     l47 = t0;
     l22 = 0u;
@@ -119861,30 +118811,30 @@ static u32 f332(Machine *m, u64 l0, u64 l1, u64 l2, u64 l3, u64 l4, u64 l5, u64 
     w0 = t0 <= t1;
     if (w0) goto L73;
     L74:;
-    t0 = I64_LOAD(m, l9 + 288u);
+    t0 = I64_LOAD(m, l9 + 360u);
     l11 = t0;
-    I64_STORE(m, l9 + 496u, 0ull);
-    I64_STORE(m, l9 + 504u, 0ull);
-    I64_STORE(m, l9 + 512u, l49);
+    I64_STORE(m, l9 + 568u, 0ull);
+    I64_STORE(m, l9 + 576u, 0ull);
+    I64_STORE(m, l9 + 584u, l49);
     t0 = l9 + 872ull;
-    I64_STORE(m, l9 + 488u, t0);
+    I64_STORE(m, l9 + 560u, t0);
     w0 = l19 == 0;
     if (w0) goto L72;
-    t0 = l9 + 488ull;
+    t0 = l9 + 560ull;
     t1 = l19 * 5ull;
-    w0 = f136(m, t0, t1);
+    w0 = f137(m, t0, t1);
     if (w0) goto L76;
-    t0 = I64_LOAD(m, l9 + 504u);
+    t0 = I64_LOAD(m, l9 + 576u);
     l2 = t0;
     w0 = l2 == 0;
     if (w0) goto L75;
-    t0 = I64_LOAD(m, l9 + 512u);
+    t0 = I64_LOAD(m, l9 + 584u);
     l4 = t0;
     t0 = l4 + 16ull;
     t0 = I64_LOAD(m, t0);
     w0 = t0 != 1ull;
     if (w0) goto L77;
-    t0 = I64_LOAD(m, l9 + 488u);
+    t0 = I64_LOAD(m, l9 + 560u);
     t1 = l4 + 8ull;
     t1 = I64_LOAD(m, t1);
     l3 = t1;
@@ -119908,27 +118858,27 @@ static u32 f332(Machine *m, u64 l0, u64 l1, u64 l2, u64 l3, u64 l4, u64 l5, u64 
     goto L75;
     L76:;
     t0 = l13 ? l50 : l11;
-    l51 = t0;
-    t0 = I64_LOAD(m, l9 + 512u);
+    l47 = t0;
+    t0 = I64_LOAD(m, l9 + 584u);
     l2 = t0;
-    I64_STORE(m, l9 + 599u, l2);
-    t0 = I64_LOAD(m, l9 + 504u);
+    I64_STORE(m, l9 + 703u, l2);
+    t0 = I64_LOAD(m, l9 + 576u);
     l3 = t0;
-    I64_STORE(m, l9 + 591u, l3);
-    t0 = I64_LOAD(m, l9 + 496u);
+    I64_STORE(m, l9 + 695u, l3);
+    t0 = I64_LOAD(m, l9 + 568u);
     l12 = t0;
-    I64_STORE(m, l9 + 583u, l12);
-    t0 = I64_LOAD(m, l9 + 488u);
+    I64_STORE(m, l9 + 687u, l12);
+    t0 = I64_LOAD(m, l9 + 560u);
     l11 = t0;
-    I64_STORE(m, l9 + 575u, l11);
-    I64_STORE(m, l9 + 440u, l11);
-    I64_STORE(m, l9 + 448u, l12);
-    I64_STORE(m, l9 + 456u, l3);
-    I64_STORE(m, l9 + 464u, l2);
-    l52 = 0ull;
+    I64_STORE(m, l9 + 679u, l11);
+    I64_STORE(m, l9 + 512u, l11);
+    I64_STORE(m, l9 + 520u, l12);
+    I64_STORE(m, l9 + 528u, l3);
+    I64_STORE(m, l9 + 536u, l2);
+    l51 = 0ull;
     L79:;
-    t0 = l52 << 3;
-    t0 = l51 + t0;
+    t0 = l51 << 3;
+    t0 = l47 + t0;
     t0 = I64_LOAD(m, t0);
     l16 = t0;
     w0 = l16 == 0;
@@ -119967,9 +118917,9 @@ static u32 f332(Machine *m, u64 l0, u64 l1, u64 l2, u64 l3, u64 l4, u64 l5, u64 
     l3 = t0;
     w0 = l3 != 0ull;
     if (w0) goto L83;
-    t0 = I64_LOAD(m, l9 + 440u);
+    t0 = I64_LOAD(m, l9 + 512u);
     l15 = t0;
-    t0 = I64_LOAD(m, l9 + 448u);
+    t0 = I64_LOAD(m, l9 + 520u);
     l10 = t0;
     w0 = l10 == 0;
     if (w0) goto L84;
@@ -120027,16 +118977,16 @@ static u32 f332(Machine *m, u64 l0, u64 l1, u64 l2, u64 l3, u64 l4, u64 l5, u64 
     L84:;
     w0 = l2 == 0;
     if (w0) goto L88;
-    t0 = I64_LOAD(m, l9 + 456u);
+    t0 = I64_LOAD(m, l9 + 528u);
     w0 = t0 != l10;
     if (w0) goto L89;
-    t0 = l9 + 440ull;
-    w0 = f137(m, t0);
+    t0 = l9 + 512ull;
+    w0 = f138(m, t0);
     w0 = w0 == 0;
     if (w0) goto L78;
-    t0 = I64_LOAD(m, l9 + 440u);
+    t0 = I64_LOAD(m, l9 + 512u);
     l15 = t0;
-    t0 = I64_LOAD(m, l9 + 448u);
+    t0 = I64_LOAD(m, l9 + 520u);
     l10 = t0;
     L89:;
     t0 = l10 << 4;
@@ -120049,7 +118999,7 @@ static u32 f332(Machine *m, u64 l0, u64 l1, u64 l2, u64 l3, u64 l4, u64 l5, u64 
     I32_STORE(m, l3, w0);
     t0 = l10 + 1ull;
     l10 = t0;
-    I64_STORE(m, l9 + 448u, l10);
+    I64_STORE(m, l9 + 520u, l10);
     L88:;
     t0 = l14 + 1ull;
     l14 = t0;
@@ -120058,9 +119008,9 @@ static u32 f332(Machine *m, u64 l0, u64 l1, u64 l2, u64 l3, u64 l4, u64 l5, u64 
     goto L80;
     L81:;
     l16 = 1ull;
-    t0 = I64_LOAD(m, l9 + 448u);
+    t0 = I64_LOAD(m, l9 + 520u);
     l10 = t0;
-    t0 = I64_LOAD(m, l9 + 440u);
+    t0 = I64_LOAD(m, l9 + 512u);
     l17 = t0;
     L90:;
     l3 = l16;
@@ -120124,16 +119074,16 @@ static u32 f332(Machine *m, u64 l0, u64 l1, u64 l2, u64 l3, u64 l4, u64 l5, u64 
     w0 = l14 == l11;
     if (w0) goto L91;
     L92:;
-    t0 = I64_LOAD(m, l9 + 456u);
+    t0 = I64_LOAD(m, l9 + 528u);
     w0 = t0 != l10;
     if (w0) goto L96;
-    t0 = l9 + 440ull;
-    w0 = f137(m, t0);
+    t0 = l9 + 512ull;
+    w0 = f138(m, t0);
     w0 = w0 == 0;
     if (w0) goto L78;
-    t0 = I64_LOAD(m, l9 + 440u);
+    t0 = I64_LOAD(m, l9 + 512u);
     l17 = t0;
-    t0 = I64_LOAD(m, l9 + 448u);
+    t0 = I64_LOAD(m, l9 + 520u);
     l10 = t0;
     L96:;
     t0 = l10 << 4;
@@ -120146,38 +119096,38 @@ static u32 f332(Machine *m, u64 l0, u64 l1, u64 l2, u64 l3, u64 l4, u64 l5, u64 
     I32_STORE(m, l2, w0);
     t0 = l10 + 1ull;
     l10 = t0;
-    I64_STORE(m, l9 + 448u, l10);
+    I64_STORE(m, l9 + 520u, l10);
     L91:;
     t0 = l16 + 1ull;
     l16 = t0;
     w0 = l16 != 32ull;
     if (w0) goto L90;
     L80:;
-    t0 = l52 + 1ull;
-    l52 = t0;
-    w0 = l52 != l19;
+    t0 = l51 + 1ull;
+    l51 = t0;
+    w0 = l51 != l19;
     if (w0) goto L79;
-    t0 = I64_LOAD(m, l9 + 312u);
+    t0 = I64_LOAD(m, l9 + 384u);
     l12 = t0;
-    t0 = I64_LOAD(m, l9 + 352u);
+    t0 = I64_LOAD(m, l9 + 424u);
     l3 = t0;
-    t0 = I64_LOAD(m, l9 + 432u);
+    t0 = I64_LOAD(m, l9 + 504u);
     l17 = t0;
-    w0 = I32_LOAD8_U(m, l9 + 280u);
+    w0 = I32_LOAD8_U(m, l9 + 352u);
     l13 = w0;
     goto L71;
     L78:;
-    t0 = I64_LOAD(m, l9 + 456u);
+    t0 = I64_LOAD(m, l9 + 528u);
     l2 = t0;
     w0 = l2 == 0;
     if (w0) goto L75;
-    t0 = I64_LOAD(m, l9 + 464u);
+    t0 = I64_LOAD(m, l9 + 536u);
     l4 = t0;
     t0 = l4 + 16ull;
     t0 = I64_LOAD(m, t0);
     w0 = t0 != 1ull;
     if (w0) goto L97;
-    t0 = I64_LOAD(m, l9 + 440u);
+    t0 = I64_LOAD(m, l9 + 512u);
     t1 = l4 + 8ull;
     t1 = I64_LOAD(m, t1);
     l3 = t1;
@@ -120199,30 +119149,30 @@ static u32 f332(Machine *m, u64 l0, u64 l1, u64 l2, u64 l3, u64 l4, u64 l5, u64 
     t0 = t0 + 18446744073709551615ull;
     I64_STORE(m, l4, t0);
     L75:;
-    t0 = I64_LOAD(m, l9 + 744u);
-    l16 = t0;
-    t0 = I64_LOAD(m, l9 + 760u);
+    t0 = I64_LOAD(m, l9 + 648u);
+    l14 = t0;
+    t0 = I64_LOAD(m, l9 + 664u);
     l49 = t0;
-    t0 = I64_LOAD(m, l9 + 736u);
+    t0 = I64_LOAD(m, l9 + 640u);
     l47 = t0;
     goto L70;
     L73:;
-    t0 = l9 + 280ull;
-    t1 = l9 + 736ull;
-    w0 = f151(m, t0, l4, l18, t1);
+    t0 = l9 + 352ull;
+    t1 = l9 + 640ull;
+    w0 = f149(m, t0, l4, l18, t1);
     l13 = w0;
-    t0 = I64_LOAD(m, l9 + 760u);
+    t0 = I64_LOAD(m, l9 + 664u);
     l49 = t0;
-    t0 = I64_LOAD(m, l9 + 752u);
+    t0 = I64_LOAD(m, l9 + 656u);
     l48 = t0;
-    t0 = I64_LOAD(m, l9 + 744u);
-    l16 = t0;
-    t0 = I64_LOAD(m, l9 + 736u);
+    t0 = I64_LOAD(m, l9 + 648u);
+    l14 = t0;
+    t0 = I64_LOAD(m, l9 + 640u);
     l47 = t0;
     w0 = l13 & 255u;
     w0 = w0 == 0;
     if (w0) goto L53;
-    w0 = l16 == 0;
+    w0 = l14 == 0;
     if (w0) goto L98;
     l4 = l47;
     L99:;
@@ -120266,9 +119216,9 @@ static u32 f332(Machine *m, u64 l0, u64 l1, u64 l2, u64 l3, u64 l4, u64 l5, u64 
     L100:;
     t0 = l4 + 136ull;
     l4 = t0;
-    t0 = l16 + 18446744073709551615ull;
-    l16 = t0;
-    w0 = l16 != 0ull;
+    t0 = l14 + 18446744073709551615ull;
+    l14 = t0;
+    w0 = l14 != 0ull;
     if (w0) goto L99;
     L98:;
     l22 = 1u;
@@ -120302,74 +119252,74 @@ static u32 f332(Machine *m, u64 l0, u64 l1, u64 l2, u64 l3, u64 l4, u64 l5, u64 
     L72:;
     w0 = (u32)l2;
     l13 = w0;
-    t0 = I64_LOAD(m, l9 + 512u);
+    t0 = I64_LOAD(m, l9 + 584u);
     l2 = t0;
-    I64_STORE(m, l9 + 599u, l2);
-    t0 = I64_LOAD(m, l9 + 504u);
+    I64_STORE(m, l9 + 703u, l2);
+    t0 = I64_LOAD(m, l9 + 576u);
     l11 = t0;
-    I64_STORE(m, l9 + 591u, l11);
-    t0 = I64_LOAD(m, l9 + 496u);
+    I64_STORE(m, l9 + 695u, l11);
+    t0 = I64_LOAD(m, l9 + 568u);
     l10 = t0;
-    I64_STORE(m, l9 + 583u, l10);
-    t0 = I64_LOAD(m, l9 + 488u);
+    I64_STORE(m, l9 + 687u, l10);
+    t0 = I64_LOAD(m, l9 + 560u);
     l14 = t0;
-    I64_STORE(m, l9 + 575u, l14);
-    I64_STORE(m, l9 + 440u, l14);
-    I64_STORE(m, l9 + 448u, l10);
-    I64_STORE(m, l9 + 456u, l11);
-    I64_STORE(m, l9 + 464u, l2);
+    I64_STORE(m, l9 + 679u, l14);
+    I64_STORE(m, l9 + 512u, l14);
+    I64_STORE(m, l9 + 520u, l10);
+    I64_STORE(m, l9 + 528u, l11);
+    I64_STORE(m, l9 + 536u, l2);
     l17 = l18;
     L71:;
-    t0 = I64_LOAD(m, l9 + 464u);
-    l53 = t0;
-    t0 = I64_LOAD(m, l9 + 456u);
-    l54 = t0;
-    t0 = I64_LOAD(m, l9 + 440u);
+    t0 = I64_LOAD(m, l9 + 536u);
+    l49 = t0;
+    t0 = I64_LOAD(m, l9 + 528u);
+    l52 = t0;
+    t0 = I64_LOAD(m, l9 + 512u);
     l16 = t0;
-    I64_STORE(m, l9 + 496u, 0ull);
-    I64_STORE(m, l9 + 504u, 0ull);
+    I64_STORE(m, l9 + 568u, 0ull);
+    I64_STORE(m, l9 + 576u, 0ull);
     w0 = l13 & 255u;
     t0 = w0 ? l12 : l3;
-    I64_STORE(m, l9 + 512u, t0);
+    I64_STORE(m, l9 + 584u, t0);
     t0 = l9 + 872ull;
-    I64_STORE(m, l9 + 488u, t0);
+    I64_STORE(m, l9 + 560u, t0);
     w0 = l17 != 0ull;
     if (w0) goto L110;
-    t0 = I64_LOAD(m, l9 + 512u);
+    t0 = I64_LOAD(m, l9 + 584u);
     l2 = t0;
-    I64_STORE(m, l9 + 599u, l2);
-    t0 = I64_LOAD(m, l9 + 504u);
+    I64_STORE(m, l9 + 703u, l2);
+    t0 = I64_LOAD(m, l9 + 576u);
     l11 = t0;
-    I64_STORE(m, l9 + 591u, l11);
-    t0 = I64_LOAD(m, l9 + 496u);
+    I64_STORE(m, l9 + 695u, l11);
+    t0 = I64_LOAD(m, l9 + 568u);
     l3 = t0;
-    I64_STORE(m, l9 + 583u, l3);
-    t0 = I64_LOAD(m, l9 + 488u);
+    I64_STORE(m, l9 + 687u, l3);
+    t0 = I64_LOAD(m, l9 + 560u);
     l12 = t0;
-    I64_STORE(m, l9 + 575u, l12);
-    I64_STORE(m, l9 + 440u, l12);
-    I64_STORE(m, l9 + 448u, l3);
-    I64_STORE(m, l9 + 456u, l11);
-    I64_STORE(m, l9 + 464u, l2);
+    I64_STORE(m, l9 + 679u, l12);
+    I64_STORE(m, l9 + 512u, l12);
+    I64_STORE(m, l9 + 520u, l3);
+    I64_STORE(m, l9 + 528u, l11);
+    I64_STORE(m, l9 + 536u, l2);
     goto L109;
     L110:;
-    t0 = l9 + 488ull;
+    t0 = l9 + 560ull;
     w0 = l17 < 3689348814741910323ull;
     t1 = w0 ? l17 : 3689348814741910323ull;
     t1 = t1 * 5ull;
-    w0 = f138(m, t0, t1);
+    w0 = f139(m, t0, t1);
     if (w0) goto L111;
-    t0 = I64_LOAD(m, l9 + 504u);
+    t0 = I64_LOAD(m, l9 + 576u);
     l2 = t0;
     w0 = l2 == 0;
     if (w0) goto L107;
-    t0 = I64_LOAD(m, l9 + 512u);
+    t0 = I64_LOAD(m, l9 + 584u);
     l4 = t0;
     t0 = l4 + 16ull;
     t0 = I64_LOAD(m, t0);
     w0 = t0 != 1ull;
     if (w0) goto L112;
-    t0 = I64_LOAD(m, l9 + 488u);
+    t0 = I64_LOAD(m, l9 + 560u);
     t1 = l4 + 8ull;
     t1 = I64_LOAD(m, t1);
     l3 = t1;
@@ -120393,22 +119343,22 @@ static u32 f332(Machine *m, u64 l0, u64 l1, u64 l2, u64 l3, u64 l4, u64 l5, u64 
     l46 = 1u;
     goto L103;
     L111:;
-    t0 = I64_LOAD(m, l9 + 512u);
+    t0 = I64_LOAD(m, l9 + 584u);
     l2 = t0;
-    I64_STORE(m, l9 + 599u, l2);
-    t0 = I64_LOAD(m, l9 + 504u);
+    I64_STORE(m, l9 + 703u, l2);
+    t0 = I64_LOAD(m, l9 + 576u);
     l3 = t0;
-    I64_STORE(m, l9 + 591u, l3);
-    t0 = I64_LOAD(m, l9 + 496u);
+    I64_STORE(m, l9 + 695u, l3);
+    t0 = I64_LOAD(m, l9 + 568u);
     l12 = t0;
-    I64_STORE(m, l9 + 583u, l12);
-    t0 = I64_LOAD(m, l9 + 488u);
+    I64_STORE(m, l9 + 687u, l12);
+    t0 = I64_LOAD(m, l9 + 560u);
     l11 = t0;
-    I64_STORE(m, l9 + 575u, l11);
-    I64_STORE(m, l9 + 440u, l11);
-    I64_STORE(m, l9 + 448u, l12);
-    I64_STORE(m, l9 + 456u, l3);
-    I64_STORE(m, l9 + 464u, l2);
+    I64_STORE(m, l9 + 679u, l11);
+    I64_STORE(m, l9 + 512u, l11);
+    I64_STORE(m, l9 + 520u, l12);
+    I64_STORE(m, l9 + 528u, l3);
+    I64_STORE(m, l9 + 536u, l2);
     w0 = l10 == 0;
     if (w0) goto L113;
     t0 = l10 & 18446744073709551614ull;
@@ -120474,26 +119424,26 @@ static u32 f332(Machine *m, u64 l0, u64 l1, u64 l2, u64 l3, u64 l4, u64 l5, u64 
     t0 = t0 ^ l3;
     l3 = t0;
     L116:;
-    t0 = I64_LOAD(m, l9 + 456u);
-    t1 = I64_LOAD(m, l9 + 448u);
+    t0 = I64_LOAD(m, l9 + 528u);
+    t1 = I64_LOAD(m, l9 + 520u);
     l2 = t1;
     w0 = t0 != l2;
     if (w0) goto L120;
-    t0 = l9 + 440ull;
-    w0 = f139(m, t0);
+    t0 = l9 + 512ull;
+    w0 = f140(m, t0);
     w0 = w0 == 0;
     if (w0) goto L108;
-    t0 = I64_LOAD(m, l9 + 448u);
+    t0 = I64_LOAD(m, l9 + 520u);
     l2 = t0;
     L120:;
-    t0 = I64_LOAD(m, l9 + 440u);
+    t0 = I64_LOAD(m, l9 + 512u);
     l12 = t0;
     t0 = l2 << 3;
     t0 = l12 + t0;
     I64_STORE(m, t0, l3);
     t0 = l2 + 1ull;
     l3 = t0;
-    I64_STORE(m, l9 + 448u, l3);
+    I64_STORE(m, l9 + 520u, l3);
     t0 = l14 >> 55;
     w0 = (u32)t0;
     l13 = w0;
@@ -120532,21 +119482,21 @@ static u32 f332(Machine *m, u64 l0, u64 l1, u64 l2, u64 l3, u64 l4, u64 l5, u64 
     goto L109;
     L113:;
     l2 = 1ull;
-    t0 = I64_LOAD(m, l9 + 448u);
+    t0 = I64_LOAD(m, l9 + 520u);
     l3 = t0;
     l12 = l17;
     L121:;
-    t0 = I64_LOAD(m, l9 + 456u);
+    t0 = I64_LOAD(m, l9 + 528u);
     w0 = t0 != l3;
     if (w0) goto L122;
-    t0 = l9 + 440ull;
-    w0 = f139(m, t0);
+    t0 = l9 + 512ull;
+    w0 = f140(m, t0);
     w0 = w0 == 0;
     if (w0) goto L108;
-    t0 = I64_LOAD(m, l9 + 448u);
+    t0 = I64_LOAD(m, l9 + 520u);
     l3 = t0;
     L122:;
-    t0 = I64_LOAD(m, l9 + 440u);
+    t0 = I64_LOAD(m, l9 + 512u);
     l14 = t0;
     t0 = l3 << 3;
     t0 = l14 + t0;
@@ -120554,7 +119504,7 @@ static u32 f332(Machine *m, u64 l0, u64 l1, u64 l2, u64 l3, u64 l4, u64 l5, u64 
     I64_STORE(m, t0, t1);
     t0 = l3 + 1ull;
     l3 = t0;
-    I64_STORE(m, l9 + 448u, l3);
+    I64_STORE(m, l9 + 520u, l3);
     t0 = l2 >> 55;
     w0 = (u32)t0;
     l13 = w0;
@@ -120587,16 +119537,16 @@ static u32 f332(Machine *m, u64 l0, u64 l1, u64 l2, u64 l3, u64 l4, u64 l5, u64 
     l2 = 2ull;
     l12 = l17;
     L123:;
-    t0 = I64_LOAD(m, l9 + 456u);
+    t0 = I64_LOAD(m, l9 + 528u);
     w0 = t0 != l3;
     if (w0) goto L124;
-    t0 = l9 + 440ull;
-    w0 = f139(m, t0);
+    t0 = l9 + 512ull;
+    w0 = f140(m, t0);
     w0 = w0 == 0;
     if (w0) goto L108;
-    t0 = I64_LOAD(m, l9 + 440u);
+    t0 = I64_LOAD(m, l9 + 512u);
     l14 = t0;
-    t0 = I64_LOAD(m, l9 + 448u);
+    t0 = I64_LOAD(m, l9 + 520u);
     l3 = t0;
     L124:;
     t0 = l3 << 3;
@@ -120605,7 +119555,7 @@ static u32 f332(Machine *m, u64 l0, u64 l1, u64 l2, u64 l3, u64 l4, u64 l5, u64 
     I64_STORE(m, t0, t1);
     t0 = l3 + 1ull;
     l3 = t0;
-    I64_STORE(m, l9 + 448u, l3);
+    I64_STORE(m, l9 + 520u, l3);
     t0 = l2 >> 55;
     w0 = (u32)t0;
     l13 = w0;
@@ -120638,17 +119588,17 @@ static u32 f332(Machine *m, u64 l0, u64 l1, u64 l2, u64 l3, u64 l4, u64 l5, u64 
     l2 = 4ull;
     l12 = l17;
     L125:;
-    t0 = I64_LOAD(m, l9 + 456u);
+    t0 = I64_LOAD(m, l9 + 528u);
     w0 = t0 != l3;
     if (w0) goto L126;
-    t0 = l9 + 440ull;
-    w0 = f139(m, t0);
+    t0 = l9 + 512ull;
+    w0 = f140(m, t0);
     w0 = w0 == 0;
     if (w0) goto L108;
-    t0 = I64_LOAD(m, l9 + 448u);
+    t0 = I64_LOAD(m, l9 + 520u);
     l3 = t0;
     L126:;
-    t0 = I64_LOAD(m, l9 + 440u);
+    t0 = I64_LOAD(m, l9 + 512u);
     l14 = t0;
     t0 = l3 << 3;
     t0 = l14 + t0;
@@ -120656,7 +119606,7 @@ static u32 f332(Machine *m, u64 l0, u64 l1, u64 l2, u64 l3, u64 l4, u64 l5, u64 
     I64_STORE(m, t0, t1);
     t0 = l3 + 1ull;
     l3 = t0;
-    I64_STORE(m, l9 + 448u, l3);
+    I64_STORE(m, l9 + 520u, l3);
     t0 = l2 >> 55;
     w0 = (u32)t0;
     l13 = w0;
@@ -120689,16 +119639,16 @@ static u32 f332(Machine *m, u64 l0, u64 l1, u64 l2, u64 l3, u64 l4, u64 l5, u64 
     l2 = 8ull;
     l12 = l17;
     L127:;
-    t0 = I64_LOAD(m, l9 + 456u);
+    t0 = I64_LOAD(m, l9 + 528u);
     w0 = t0 != l3;
     if (w0) goto L128;
-    t0 = l9 + 440ull;
-    w0 = f139(m, t0);
+    t0 = l9 + 512ull;
+    w0 = f140(m, t0);
     w0 = w0 == 0;
     if (w0) goto L108;
-    t0 = I64_LOAD(m, l9 + 440u);
+    t0 = I64_LOAD(m, l9 + 512u);
     l14 = t0;
-    t0 = I64_LOAD(m, l9 + 448u);
+    t0 = I64_LOAD(m, l9 + 520u);
     l3 = t0;
     L128:;
     t0 = l3 << 3;
@@ -120707,7 +119657,7 @@ static u32 f332(Machine *m, u64 l0, u64 l1, u64 l2, u64 l3, u64 l4, u64 l5, u64 
     I64_STORE(m, t0, t1);
     t0 = l3 + 1ull;
     l3 = t0;
-    I64_STORE(m, l9 + 448u, l3);
+    I64_STORE(m, l9 + 520u, l3);
     t0 = l2 >> 55;
     w0 = (u32)t0;
     l13 = w0;
@@ -120739,17 +119689,17 @@ static u32 f332(Machine *m, u64 l0, u64 l1, u64 l2, u64 l3, u64 l4, u64 l5, u64 
     if (w0) goto L127;
     l2 = 16ull;
     L129:;
-    t0 = I64_LOAD(m, l9 + 456u);
+    t0 = I64_LOAD(m, l9 + 528u);
     w0 = t0 != l3;
     if (w0) goto L130;
-    t0 = l9 + 440ull;
-    w0 = f139(m, t0);
+    t0 = l9 + 512ull;
+    w0 = f140(m, t0);
     w0 = w0 == 0;
     if (w0) goto L108;
-    t0 = I64_LOAD(m, l9 + 448u);
+    t0 = I64_LOAD(m, l9 + 520u);
     l3 = t0;
     L130:;
-    t0 = I64_LOAD(m, l9 + 440u);
+    t0 = I64_LOAD(m, l9 + 512u);
     l12 = t0;
     t0 = l3 << 3;
     t0 = l12 + t0;
@@ -120757,7 +119707,7 @@ static u32 f332(Machine *m, u64 l0, u64 l1, u64 l2, u64 l3, u64 l4, u64 l5, u64 
     I64_STORE(m, t0, t1);
     t0 = l3 + 1ull;
     l3 = t0;
-    I64_STORE(m, l9 + 448u, l3);
+    I64_STORE(m, l9 + 520u, l3);
     t0 = l2 >> 55;
     w0 = (u32)t0;
     l13 = w0;
@@ -120789,43 +119739,43 @@ static u32 f332(Machine *m, u64 l0, u64 l1, u64 l2, u64 l3, u64 l4, u64 l5, u64 
     w0 = w0 == 0;
     if (w0) goto L129;
     L109:;
-    t0 = l9 + 280ull;
-    w0 = I32_LOAD8_U(m, l9 + 280u);
+    t0 = l9 + 352ull;
+    w0 = I32_LOAD8_U(m, l9 + 352u);
     t1 = w0 ? 32ull : 72ull;
     t0 = t0 + t1;
     t0 = I64_LOAD(m, t0);
     l2 = t0;
-    t0 = I64_LOAD(m, l9 + 464u);
-    l55 = t0;
-    t0 = I64_LOAD(m, l9 + 456u);
-    l56 = t0;
-    I64_STORE(m, l9 + 496u, 0ull);
-    I64_STORE(m, l9 + 504u, 0ull);
-    I64_STORE(m, l9 + 512u, l2);
+    t0 = I64_LOAD(m, l9 + 536u);
+    l53 = t0;
+    t0 = I64_LOAD(m, l9 + 528u);
+    l54 = t0;
+    I64_STORE(m, l9 + 568u, 0ull);
+    I64_STORE(m, l9 + 576u, 0ull);
+    I64_STORE(m, l9 + 584u, l2);
     t0 = l9 + 872ull;
-    I64_STORE(m, l9 + 488u, t0);
+    I64_STORE(m, l9 + 560u, t0);
     t0 = I64_DIV_U(l3, 5ull);
-    l57 = t0;
-    t0 = l57 * 31ull;
+    l55 = t0;
+    t0 = l55 * 31ull;
     w0 = l3 > 2975281302211218004ull;
     t0 = w0 ? 18446744073709551615ull : t0;
     l2 = t0;
     w0 = l2 == 0;
     if (w0) goto L106;
-    t0 = l9 + 488ull;
-    w0 = f138(m, t0, l2);
+    t0 = l9 + 560ull;
+    w0 = f139(m, t0, l2);
     if (w0) goto L106;
-    t0 = I64_LOAD(m, l9 + 504u);
+    t0 = I64_LOAD(m, l9 + 576u);
     l2 = t0;
     w0 = l2 == 0;
     if (w0) goto L105;
-    t0 = I64_LOAD(m, l9 + 512u);
+    t0 = I64_LOAD(m, l9 + 584u);
     l4 = t0;
     t0 = l4 + 16ull;
     t0 = I64_LOAD(m, t0);
     w0 = t0 != 1ull;
     if (w0) goto L131;
-    t0 = I64_LOAD(m, l9 + 488u);
+    t0 = I64_LOAD(m, l9 + 560u);
     t1 = l4 + 8ull;
     t1 = I64_LOAD(m, t1);
     l3 = t1;
@@ -120848,17 +119798,17 @@ static u32 f332(Machine *m, u64 l0, u64 l1, u64 l2, u64 l3, u64 l4, u64 l5, u64 
     I64_STORE(m, l4, t0);
     goto L105;
     L108:;
-    t0 = I64_LOAD(m, l9 + 456u);
+    t0 = I64_LOAD(m, l9 + 528u);
     l2 = t0;
     w0 = l2 == 0;
     if (w0) goto L107;
-    t0 = I64_LOAD(m, l9 + 464u);
+    t0 = I64_LOAD(m, l9 + 536u);
     l4 = t0;
     t0 = l4 + 16ull;
     t0 = I64_LOAD(m, t0);
     w0 = t0 != 1ull;
     if (w0) goto L132;
-    t0 = I64_LOAD(m, l9 + 440u);
+    t0 = I64_LOAD(m, l9 + 512u);
     t1 = l4 + 8ull;
     t1 = I64_LOAD(m, t1);
     l3 = t1;
@@ -120883,86 +119833,86 @@ static u32 f332(Machine *m, u64 l0, u64 l1, u64 l2, u64 l3, u64 l4, u64 l5, u64 
     l46 = 1u;
     goto L103;
     L106:;
-    t0 = I64_LOAD(m, l9 + 512u);
+    t0 = I64_LOAD(m, l9 + 584u);
     l2 = t0;
-    I64_STORE(m, l9 + 599u, l2);
-    t0 = I64_LOAD(m, l9 + 504u);
+    I64_STORE(m, l9 + 703u, l2);
+    t0 = I64_LOAD(m, l9 + 576u);
     l11 = t0;
-    I64_STORE(m, l9 + 591u, l11);
-    t0 = I64_LOAD(m, l9 + 496u);
+    I64_STORE(m, l9 + 695u, l11);
+    t0 = I64_LOAD(m, l9 + 568u);
     l14 = t0;
-    I64_STORE(m, l9 + 583u, l14);
-    t0 = I64_LOAD(m, l9 + 488u);
+    I64_STORE(m, l9 + 687u, l14);
+    t0 = I64_LOAD(m, l9 + 560u);
     l15 = t0;
-    I64_STORE(m, l9 + 575u, l15);
-    I64_STORE(m, l9 + 440u, l15);
-    I64_STORE(m, l9 + 448u, l14);
-    I64_STORE(m, l9 + 456u, l11);
-    I64_STORE(m, l9 + 464u, l2);
+    I64_STORE(m, l9 + 679u, l15);
+    I64_STORE(m, l9 + 512u, l15);
+    I64_STORE(m, l9 + 520u, l14);
+    I64_STORE(m, l9 + 528u, l11);
+    I64_STORE(m, l9 + 536u, l2);
     w0 = l3 > 4ull;
     if (w0) goto L135;
-    t0 = I64_LOAD(m, l9 + 448u);
+    t0 = I64_LOAD(m, l9 + 520u);
     l3 = t0;
-    t0 = I64_LOAD(m, l9 + 440u);
+    t0 = I64_LOAD(m, l9 + 512u);
     l11 = t0;
     goto L134;
     L135:;
-    t0 = l57 * 3ull;
-    l58 = t0;
-    t0 = l57 << 5;
+    t0 = l55 * 3ull;
+    l48 = t0;
+    t0 = l55 << 5;
     t0 = l12 + t0;
-    l59 = t0;
-    t0 = l57 << 4;
+    l56 = t0;
+    t0 = l55 << 4;
     t0 = l12 + t0;
-    l47 = t0;
-    l51 = 0ull;
-    t0 = I64_LOAD(m, l9 + 448u);
+    l57 = t0;
+    l47 = 0ull;
+    t0 = I64_LOAD(m, l9 + 520u);
     l3 = t0;
     L136:;
-    t0 = l51 << 5;
+    t0 = l47 << 5;
     t0 = t0 & 536870880ull;
     l14 = t0;
-    t0 = l51 << 3;
+    t0 = l47 << 3;
     l2 = t0;
-    t0 = l59 + l2;
+    t0 = l56 + l2;
     t0 = I64_LOAD(m, t0);
     l15 = t0;
-    t0 = l47 + l2;
+    t0 = l57 + l2;
     t0 = I64_LOAD(m, t0);
     l17 = t0;
     t0 = l12 + l2;
     t0 = I64_LOAD(m, t0);
     l19 = t0;
-    t0 = l51 + l58;
+    t0 = l47 + l48;
     t0 = t0 << 3;
     t0 = l12 + t0;
     t0 = I64_LOAD(m, t0);
     l20 = t0;
-    t0 = l51 + l57;
+    t0 = l47 + l55;
     t0 = t0 << 3;
     t0 = l12 + t0;
     t0 = I64_LOAD(m, t0);
-    l52 = t0;
+    l51 = t0;
     l2 = 1ull;
     L137:;
-    t0 = I64_LOAD(m, l9 + 456u);
+    t0 = I64_LOAD(m, l9 + 528u);
     w0 = t0 != l3;
     if (w0) goto L138;
-    t0 = l9 + 440ull;
-    w0 = f139(m, t0);
+    t0 = l9 + 512ull;
+    w0 = f140(m, t0);
     w0 = w0 == 0;
     if (w0) goto L133;
-    t0 = I64_LOAD(m, l9 + 448u);
+    t0 = I64_LOAD(m, l9 + 520u);
     l3 = t0;
     L138:;
-    t0 = I64_LOAD(m, l9 + 440u);
+    t0 = I64_LOAD(m, l9 + 512u);
     l11 = t0;
     t0 = l3 << 3;
     t0 = l11 + t0;
     w0 = (u32)l2;
     l13 = w0;
     w0 = l13 & 2u;
-    t1 = w0 ? l52 : 0ull;
+    t1 = w0 ? l51 : 0ull;
     w0 = l2 < 16ull;
     t2 = w0 ? 0ull : l15;
     t1 = t1 ^ t2;
@@ -120981,34 +119931,34 @@ static u32 f332(Machine *m, u64 l0, u64 l1, u64 l2, u64 l3, u64 l4, u64 l5, u64 
     I64_STORE(m, t0, t1);
     t0 = l3 + 1ull;
     l3 = t0;
-    I64_STORE(m, l9 + 448u, l3);
+    I64_STORE(m, l9 + 520u, l3);
     t0 = l2 + 1ull;
     l2 = t0;
     w0 = l2 != 32ull;
     if (w0) goto L137;
-    t0 = l51 + 1ull;
-    l51 = t0;
-    w0 = l51 != l57;
+    t0 = l47 + 1ull;
+    l47 = t0;
+    w0 = l47 != l55;
     if (w0) goto L136;
     L134:;
-    f140(m, l11, l3);
-    t0 = I64_LOAD(m, l9 + 464u);
-    l49 = t0;
-    t0 = I64_LOAD(m, l9 + 456u);
-    l48 = t0;
+    f141(m, l11, l3);
+    t0 = I64_LOAD(m, l9 + 536u);
+    l58 = t0;
+    t0 = I64_LOAD(m, l9 + 528u);
+    l59 = t0;
     w0 = l4 != 1ull;
     if (w0) goto L104;
-    t0 = l9 + 280ull;
-    t1 = l9 + 736ull;
-    w0 = f143(m, t0, l16, l10, l11, l3, l18, t1);
+    t0 = l9 + 352ull;
+    t1 = l9 + 640ull;
+    w0 = f144(m, t0, l16, l10, l11, l3, l18, t1);
     l13 = w0;
-    w0 = l48 == 0;
+    w0 = l59 == 0;
     if (w0) goto L139;
-    t0 = l49 + 16ull;
+    t0 = l58 + 16ull;
     t0 = I64_LOAD(m, t0);
     w0 = t0 != 1ull;
     if (w0) goto L140;
-    t0 = l49 + 8ull;
+    t0 = l58 + 8ull;
     t0 = I64_LOAD(m, t0);
     l4 = t0;
     t0 = I64_LOAD(m, l4);
@@ -121019,11 +119969,11 @@ static u32 f332(Machine *m, u64 l0, u64 l1, u64 l2, u64 l3, u64 l4, u64 l5, u64 
     t0 = t0 + l2;
     w0 = l11 != t0;
     if (w0) goto L140;
-    t0 = l48 << 3;
+    t0 = l59 << 3;
     t0 = l2 + t0;
     I64_STORE(m, l4, t0);
     L140:;
-    t0 = l49 + 24ull;
+    t0 = l58 + 24ull;
     l4 = t0;
     t0 = I64_LOAD(m, l4);
     t0 = t0 + 18446744073709551615ull;
@@ -121031,13 +119981,13 @@ static u32 f332(Machine *m, u64 l0, u64 l1, u64 l2, u64 l3, u64 l4, u64 l5, u64 
     L139:;
     w0 = l13 & 255u;
     l46 = w0;
-    w0 = l56 == 0;
+    w0 = l54 == 0;
     if (w0) goto L103;
-    t0 = l55 + 16ull;
+    t0 = l53 + 16ull;
     t0 = I64_LOAD(m, t0);
     w0 = t0 != 1ull;
     if (w0) goto L141;
-    t0 = l55 + 8ull;
+    t0 = l53 + 8ull;
     t0 = I64_LOAD(m, t0);
     l4 = t0;
     t0 = I64_LOAD(m, l4);
@@ -121048,28 +119998,28 @@ static u32 f332(Machine *m, u64 l0, u64 l1, u64 l2, u64 l3, u64 l4, u64 l5, u64 
     t0 = t0 + l2;
     w0 = l12 != t0;
     if (w0) goto L141;
-    t0 = l56 << 3;
+    t0 = l54 << 3;
     t0 = l2 + t0;
     I64_STORE(m, l4, t0);
     L141:;
-    t0 = l55 + 24ull;
+    t0 = l53 + 24ull;
     l4 = t0;
     t0 = I64_LOAD(m, l4);
     t0 = t0 + 18446744073709551615ull;
     I64_STORE(m, l4, t0);
     goto L103;
     L133:;
-    t0 = I64_LOAD(m, l9 + 456u);
+    t0 = I64_LOAD(m, l9 + 528u);
     l2 = t0;
     w0 = l2 == 0;
     if (w0) goto L105;
-    t0 = I64_LOAD(m, l9 + 464u);
+    t0 = I64_LOAD(m, l9 + 536u);
     l4 = t0;
     t0 = l4 + 16ull;
     t0 = I64_LOAD(m, t0);
     w0 = t0 != 1ull;
     if (w0) goto L142;
-    t0 = I64_LOAD(m, l9 + 440u);
+    t0 = I64_LOAD(m, l9 + 512u);
     t1 = l4 + 8ull;
     t1 = I64_LOAD(m, t1);
     l3 = t1;
@@ -121092,13 +120042,13 @@ static u32 f332(Machine *m, u64 l0, u64 l1, u64 l2, u64 l3, u64 l4, u64 l5, u64 
     I64_STORE(m, l4, t0);
     L105:;
     l46 = 1u;
-    w0 = l56 == 0;
+    w0 = l54 == 0;
     if (w0) goto L103;
-    t0 = l55 + 16ull;
+    t0 = l53 + 16ull;
     t0 = I64_LOAD(m, t0);
     w0 = t0 != 1ull;
     if (w0) goto L143;
-    t0 = l55 + 8ull;
+    t0 = l53 + 8ull;
     t0 = I64_LOAD(m, t0);
     l4 = t0;
     t0 = I64_LOAD(m, l4);
@@ -121109,49 +120059,47 @@ static u32 f332(Machine *m, u64 l0, u64 l1, u64 l2, u64 l3, u64 l4, u64 l5, u64 
     t0 = t0 + l2;
     w0 = l12 != t0;
     if (w0) goto L143;
-    t0 = l56 << 3;
+    t0 = l54 << 3;
     t0 = l2 + t0;
     I64_STORE(m, l4, t0);
     L143:;
-    t0 = l55 + 24ull;
+    t0 = l53 + 24ull;
     l4 = t0;
     t0 = I64_LOAD(m, l4);
     t0 = t0 + 18446744073709551615ull;
     I64_STORE(m, l4, t0);
     goto L103;
     L104:;
-    t0 = l9 + 280ull;
-    w0 = I32_LOAD8_U(m, l9 + 280u);
+    t0 = l9 + 352ull;
+    w0 = I32_LOAD8_U(m, l9 + 352u);
     l13 = w0;
     t1 = l13 ? 16ull : 64ull;
     t0 = t0 + t1;
     t0 = I64_LOAD(m, t0);
     w0 = t0 != 0ull;
-    if (w0) goto L146;
-    t0 = l9 + 400ull;
-    w0 = f144(m, t0);
+    if (w0) goto L147;
+    t0 = l9 + 472ull;
+    w0 = f145(m, t0);
     w0 = w0 == 0;
-    if (w0) goto L145;
-    t0 = l9 + 280ull;
+    if (w0) goto L146;
+    t0 = l9 + 352ull;
     t1 = l13 ? 32ull : 72ull;
     t0 = t0 + t1;
     t0 = I64_LOAD(m, t0);
     l2 = t0;
-    t0 = I64_LOAD(m, l9 + 752u);
-    t1 = I64_LOAD(m, l9 + 744u);
+    t0 = I64_LOAD(m, l9 + 656u);
+    t1 = I64_LOAD(m, l9 + 648u);
     l4 = t1;
     w0 = t0 != l4;
-    if (w0) goto L147;
-    t0 = l9 + 736ull;
-    w0 = f145(m, t0);
     if (w0) goto L148;
-    l46 = 1u;
-    goto L144;
-    L148:;
-    t0 = I64_LOAD(m, l9 + 744u);
+    t0 = l9 + 640ull;
+    w0 = f135(m, t0);
+    w0 = w0 == 0;
+    if (w0) goto L145;
+    t0 = I64_LOAD(m, l9 + 648u);
     l4 = t0;
-    L147:;
-    t0 = I64_LOAD(m, l9 + 736u);
+    L148:;
+    t0 = I64_LOAD(m, l9 + 640u);
     t1 = l4 * 136ull;
     t0 = t0 + t1;
     l14 = t0;
@@ -121159,53 +120107,50 @@ static u32 f332(Machine *m, u64 l0, u64 l1, u64 l2, u64 l3, u64 l4, u64 l5, u64 
     t0 = l14 + 128ull;
     I64_STORE(m, t0, l2);
     t0 = l4 + 1ull;
-    I64_STORE(m, l9 + 744u, t0);
-    goto L145;
-    L146:;
-    t0 = l9 + 280ull;
-    t1 = l9 + 736ull;
+    I64_STORE(m, l9 + 648u, t0);
+    goto L146;
+    L147:;
+    t0 = l9 + 352ull;
+    t1 = l9 + 640ull;
     w0 = f146(m, t0, 0ull, 0ull, t1);
     w0 = w0 & 255u;
-    w0 = w0 == 0;
     if (w0) goto L145;
-    l46 = 1u;
-    goto L144;
-    L145:;
-    t0 = I64_LOAD8_U(m, l9 + 404u);
+    L146:;
+    t0 = I64_LOAD8_U(m, l9 + 476u);
     t0 = t0 << 15;
-    t1 = I64_LOAD8_U(m, l9 + 406u);
+    t1 = I64_LOAD8_U(m, l9 + 478u);
     t1 = t1 << 25;
     t0 = t0 | t1;
-    t1 = I64_LOAD8_U(m, l9 + 403u);
+    t1 = I64_LOAD8_U(m, l9 + 475u);
     t1 = t1 << 10;
     t0 = t0 + t1;
-    t1 = I64_LOAD8_U(m, l9 + 407u);
+    t1 = I64_LOAD8_U(m, l9 + 479u);
     t1 = t1 << 10;
-    t2 = I64_LOAD8_U(m, l9 + 408u);
+    t2 = I64_LOAD8_U(m, l9 + 480u);
     t2 = t2 << 15;
     t1 = t1 + t2;
-    t2 = I64_LOAD8_U(m, l9 + 410u);
+    t2 = I64_LOAD8_U(m, l9 + 482u);
     t2 = t2 << 5;
-    t3 = I64_LOAD8_U(m, l9 + 411u);
+    t3 = I64_LOAD8_U(m, l9 + 483u);
     t3 = t3 << 10;
     t2 = t2 + t3;
-    t3 = I64_LOAD8_U(m, l9 + 409u);
+    t3 = I64_LOAD8_U(m, l9 + 481u);
     t2 = t2 + t3;
     t2 = t2 << 20;
     t1 = t1 + t2;
-    t2 = I64_LOAD8_U(m, l9 + 405u);
+    t2 = I64_LOAD8_U(m, l9 + 477u);
     t1 = t1 | t2;
     t1 = t1 << 20;
     t0 = t0 + t1;
-    t1 = I64_LOAD8_U(m, l9 + 401u);
+    t1 = I64_LOAD8_U(m, l9 + 473u);
     t0 = t0 | t1;
     t0 = t0 << 5;
-    t1 = I64_LOAD8_U(m, l9 + 402u);
+    t1 = I64_LOAD8_U(m, l9 + 474u);
     t1 = t1 << 10;
-    t2 = I64_LOAD8_U(m, l9 + 400u);
+    t2 = I64_LOAD8_U(m, l9 + 472u);
     t1 = t1 | t2;
     t0 = t0 + t1;
-    l20 = t0;
+    l51 = t0;
     w0 = l10 == 0;
     if (w0) goto L149;
     w0 = l10 != 1ull;
@@ -121221,13 +120166,13 @@ static u32 f332(Machine *m, u64 l0, u64 l1, u64 l2, u64 l3, u64 l4, u64 l5, u64 
     l2 = 0ull;
     L152:;
     t0 = I64_LOAD32_U(m, l4);
-    t0 = l20 >> (t0 & 63);
+    t0 = l51 >> (t0 & 63);
     t0 = t0 & 1ull;
     t0 = 0ull - t0;
     t1 = l4 + 8ull;
     t1 = I64_LOAD(m, t1);
     t0 = t0 & t1;
-    t0 = t0 ^ l20;
+    t0 = t0 ^ l51;
     l14 = t0;
     t0 = l4 + 16ull;
     t0 = I64_LOAD32_U(m, t0);
@@ -121238,7 +120183,7 @@ static u32 f332(Machine *m, u64 l0, u64 l1, u64 l2, u64 l3, u64 l4, u64 l5, u64 
     t1 = I64_LOAD(m, t1);
     t0 = t0 & t1;
     t0 = t0 ^ l14;
-    l20 = t0;
+    l51 = t0;
     t0 = l4 + 32ull;
     l4 = t0;
     t0 = l2 + 2ull;
@@ -121252,29 +120197,26 @@ static u32 f332(Machine *m, u64 l0, u64 l1, u64 l2, u64 l3, u64 l4, u64 l5, u64 
     t0 = l16 + t0;
     l4 = t0;
     t0 = I64_LOAD32_U(m, l4);
-    t0 = l20 >> (t0 & 63);
+    t0 = l51 >> (t0 & 63);
     t0 = t0 & 1ull;
     t0 = 0ull - t0;
     t1 = I64_LOAD(m, l4 + 8u);
     t0 = t0 & t1;
-    t0 = t0 ^ l20;
-    l20 = t0;
+    t0 = t0 ^ l51;
+    l51 = t0;
     L149:;
-    w0 = l18 == 0;
-    w0 = w0 == 0;
-    if (w0) goto L153;
     l46 = 0u;
-    goto L144;
-    L153:;
-    t0 = l9 + 296ull;
-    t1 = l9 + 344ull;
-    w0 = I32_LOAD8_U(m, l9 + 280u);
+    w0 = l18 == 0;
+    if (w0) goto L144;
+    t0 = l9 + 368ull;
+    t1 = l9 + 416ull;
+    w0 = I32_LOAD8_U(m, l9 + 352u);
     l13 = w0;
     t0 = l13 ? t0 : t1;
     t0 = I64_LOAD(m, t0);
     l60 = t0;
     t0 = l60 << 3;
-    t1 = I64_LOAD(m, l9 + 288u);
+    t1 = I64_LOAD(m, l9 + 360u);
     t1 = l13 ? t1 : l50;
     l4 = t1;
     t0 = t0 + l4;
@@ -121286,34 +120228,40 @@ static u32 f332(Machine *m, u64 l0, u64 l1, u64 l2, u64 l3, u64 l4, u64 l5, u64 
     l63 = t0;
     t0 = l60 & 3ull;
     l64 = t0;
-    t0 = l9 + 312ull;
-    t1 = l9 + 352ull;
+    t0 = l9 + 384ull;
+    t1 = l9 + 424ull;
     t0 = l13 ? t0 : t1;
     t0 = I64_LOAD(m, t0);
-    l52 = t0;
-    t0 = l57 * 3ull;
     l65 = t0;
-    t0 = l57 << 5;
-    t0 = l12 + t0;
+    t0 = l55 * 3ull;
     l66 = t0;
-    t0 = l57 << 4;
+    t0 = l55 << 5;
     t0 = l12 + t0;
     l67 = t0;
-    t0 = l9 + 576ull;
+    t0 = l55 << 4;
+    t0 = l12 + t0;
     l68 = t0;
+    t0 = l9 + 672ull;
+    t0 = t0 + 8ull;
+    l69 = t0;
+    t0 = l9 + 567ull;
+    l20 = t0;
+    t0 = l9 + 512ull;
+    t0 = t0 + 8ull;
+    l50 = t0;
     l17 = 0ull;
-    L156:;
+    L154:;
     w0 = l60 == 0;
-    if (w0) goto L158;
+    if (w0) goto L156;
     l13 = 0u;
     l2 = l60;
     w0 = l60 < 4ull;
-    if (w0) goto L160;
+    if (w0) goto L158;
     l13 = 0u;
     l4 = l61;
     l14 = l63;
     l2 = l60;
-    L161:;
+    L159:;
     t0 = I64_LOAD(m, l4);
     w0 = l17 == t0;
     t0 = l4 + 8ull;
@@ -121337,15 +120285,15 @@ static u32 f332(Machine *m, u64 l0, u64 l1, u64 l2, u64 l3, u64 l4, u64 l5, u64 
     t0 = l14 + 18446744073709551612ull;
     l14 = t0;
     w0 = l14 != 0ull;
-    if (w0) goto L161;
-    w0 = l64 == 0;
     if (w0) goto L159;
-    L160:;
+    w0 = l64 == 0;
+    if (w0) goto L157;
+    L158:;
     t0 = l2 << 3;
     t0 = l62 + t0;
     l4 = t0;
     l2 = l64;
-    L162:;
+    L160:;
     t0 = I64_LOAD(m, l4);
     w0 = l17 == t0;
     w0 = w0 | l13;
@@ -121355,80 +120303,80 @@ static u32 f332(Machine *m, u64 l0, u64 l1, u64 l2, u64 l3, u64 l4, u64 l5, u64 
     t0 = l2 + 18446744073709551615ull;
     l2 = t0;
     w0 = l2 != 0ull;
-    if (w0) goto L162;
-    L159:;
+    if (w0) goto L160;
+    L157:;
     w0 = l13 & 1u;
-    if (w0) goto L157;
-    L158:;
-    l50 = 0ull;
-    l51 = 0ull;
-    l58 = 0ull;
-    l59 = 0ull;
+    if (w0) goto L155;
+    L156:;
     l47 = 0ull;
-    w0 = l57 <= l17;
-    if (w0) goto L163;
+    l48 = 0ull;
+    l56 = 0ull;
+    l57 = 0ull;
+    l70 = 0ull;
+    w0 = l55 <= l17;
+    if (w0) goto L161;
     t0 = l17 << 3;
     l4 = t0;
-    t0 = l66 + l4;
-    t0 = I64_LOAD(m, t0);
-    l47 = t0;
     t0 = l67 + l4;
     t0 = I64_LOAD(m, t0);
-    l58 = t0;
+    l70 = t0;
+    t0 = l68 + l4;
+    t0 = I64_LOAD(m, t0);
+    l56 = t0;
     t0 = l12 + l4;
     t0 = I64_LOAD(m, t0);
-    l50 = t0;
-    t0 = l17 + l65;
+    l47 = t0;
+    t0 = l17 + l66;
     t0 = t0 << 3;
     t0 = l12 + t0;
     t0 = I64_LOAD(m, t0);
-    l59 = t0;
-    t0 = l17 + l57;
+    l57 = t0;
+    t0 = l17 + l55;
     t0 = t0 << 3;
     t0 = l12 + t0;
     t0 = I64_LOAD(m, t0);
-    l51 = t0;
-    L163:;
+    l48 = t0;
+    L161:;
     t0 = l17 << 5;
     t0 = t0 & 536870880ull;
-    l69 = t0;
-    l46 = 1u;
-    L164:;
+    l71 = t0;
+    l35 = 1u;
+    L162:;
     l4 = 0ull;
-    l13 = l46;
+    l13 = l35;
     w0 = l13 & 2u;
-    t0 = w0 ? l51 : 0ull;
+    t0 = w0 ? l48 : 0ull;
     w0 = l13 & 255u;
     w0 = w0 < 16u;
-    t1 = w0 ? 0ull : l47;
+    t1 = w0 ? 0ull : l70;
     t0 = t0 ^ t1;
     w0 = l13 & 1u;
-    t1 = w0 ? l50 : 0ull;
+    t1 = w0 ? l47 : 0ull;
     t0 = t0 ^ t1;
     w0 = l13 & 4u;
-    t1 = w0 ? l58 : 0ull;
+    t1 = w0 ? l56 : 0ull;
     t0 = t0 ^ t1;
     w0 = l13 & 8u;
-    t1 = w0 ? l59 : 0ull;
+    t1 = w0 ? l57 : 0ull;
     t0 = t0 ^ t1;
     l2 = t0;
-    w0 = l20 == l2;
-    if (w0) goto L166;
-    t0 = l2 ^ l20;
+    w0 = l51 == l2;
+    if (w0) goto L164;
+    t0 = l2 ^ l51;
     t0 = t0 << 29;
     l19 = t0;
     w0 = l3 > 1ull;
-    if (w0) goto L168;
+    if (w0) goto L166;
     w0 = (u32)l3;
     switch (w0) {
-    case 0: goto L165;
-    case 1: goto L167;
-    default: goto L165;
+    case 0: goto L163;
+    case 1: goto L165;
+    default: goto L163;
     }
-    L168:;
+    L166:;
     l4 = 0ull;
     l2 = l3;
-    L169:;
+    L167:;
     t0 = l2 >> 1;
     l14 = t0;
     t0 = l14 + l4;
@@ -121442,8 +120390,8 @@ static u32 f332(Machine *m, u64 l0, u64 l1, u64 l2, u64 l3, u64 l4, u64 l5, u64 
     t0 = l2 - l14;
     l2 = t0;
     w0 = l2 > 1ull;
-    if (w0) goto L169;
-    L167:;
+    if (w0) goto L167;
+    L165:;
     t0 = l4 << 3;
     t0 = l11 + t0;
     t0 = I64_LOAD(m, t0);
@@ -121452,130 +120400,227 @@ static u32 f332(Machine *m, u64 l0, u64 l1, u64 l2, u64 l3, u64 l4, u64 l5, u64 
     t0 = l4 + t0;
     l4 = t0;
     w0 = l3 <= l4;
-    if (w0) goto L165;
+    if (w0) goto L163;
     t0 = l4 << 3;
     t0 = l11 + t0;
     t0 = I64_LOAD(m, t0);
-    t1 = l19 | l69;
+    t1 = l19 | l71;
     w0 = t0 >= t1;
-    if (w0) goto L165;
-    L166:;
-    t0 = l9 + 568ull;
+    if (w0) goto L163;
+    L164:;
+    t0 = l9 + 672ull;
     MEMORY_FILL(m, t0, 0u, 168ull);
-    t0 = l52 + 16ull;
-    t0 = I64_LOAD(m, t0);
-    w0 = t0 == 0;
-    if (w0) goto L171;
-    t0 = l52 + 8ull;
-    t0 = I64_LOAD(m, t0);
-    l4 = t0;
-    t0 = l4 + 32ull;
+    I64_STORE(m, l50, 0ull);
+    I64_STORE(m, l50 + 8u, 0ull);
+    I64_STORE(m, l9 + 536u, l65);
+    t0 = l9 + 872ull;
+    I64_STORE(m, l9 + 512u, t0);
+    t0 = l9 + 512ull;
+    w0 = f136(m, t0, 4ull);
+    if (w0) goto L168;
+    t0 = I64_LOAD(m, l9 + 528u);
     l2 = t0;
-    t0 = I64_LOAD(m, l2);
-    l14 = t0;
-    w0 = l14 < 544ull;
-    if (w0) goto L171;
-    t0 = l14 & 18446744073709551608ull;
-    t0 = t0 + 18446744073709551072ull;
-    l14 = t0;
-    I64_STORE(m, l2, l14);
+    w0 = l2 == 0;
+    if (w0) goto L145;
+    t0 = I64_LOAD(m, l9 + 536u);
+    l4 = t0;
+    t0 = l4 + 16ull;
+    t0 = I64_LOAD(m, t0);
+    w0 = t0 != 1ull;
+    if (w0) goto L169;
+    t0 = I64_LOAD(m, l9 + 512u);
+    t1 = l4 + 8ull;
+    t1 = I64_LOAD(m, t1);
+    l3 = t1;
+    t1 = I64_LOAD(m, l3);
+    t2 = l3 + 32ull;
+    l3 = t2;
+    t2 = I64_LOAD(m, l3);
+    l10 = t2;
+    t1 = t1 + l10;
+    w0 = t0 != t1;
+    if (w0) goto L169;
+    t0 = l2 * 136ull;
+    t0 = l10 + t0;
+    I64_STORE(m, l3, t0);
+    L169:;
+    t0 = l4 + 24ull;
+    l4 = t0;
     t0 = I64_LOAD(m, l4);
-    t0 = t0 + l14;
-    l4 = t0;
-    l35 = 1u;
-    goto L170;
-    L171:;
-    t0 = l9 + 8ull;
-    f118(m, t0, l52, 544ull, 8ull);
-    t0 = I64_LOAD(m, l9 + 16u);
-    l4 = t0;
-    w0 = I32_LOAD8_U(m, l9 + 8u);
-    l35 = w0;
-    L170:;
-    l46 = 1u;
-    w0 = l35 & 1u;
+    t0 = t0 + 18446744073709551615ull;
+    I64_STORE(m, l4, t0);
+    goto L145;
+    L168:;
+    t0 = I64_LOAD(m, l9 + 536u);
+    I64_STORE(m, l20 + 24u, t0);
+    t0 = I64_LOAD(m, l9 + 528u);
+    I64_STORE(m, l20 + 16u, t0);
+    t0 = I64_LOAD(m, l9 + 520u);
+    I64_STORE(m, l20 + 8u, t0);
+    t0 = I64_LOAD(m, l9 + 512u);
+    I64_STORE(m, l20, t0);
+    t0 = I64_LOAD(m, l20);
+    I64_STORE(m, l9 + 840u, t0);
+    t0 = I64_LOAD(m, l20 + 8u);
+    I64_STORE(m, l9 + 848u, t0);
+    t0 = I64_LOAD(m, l20 + 16u);
+    I64_STORE(m, l9 + 856u, t0);
+    t0 = I64_LOAD(m, l20 + 24u);
+    I64_STORE(m, l9 + 864u, t0);
+    t0 = l9 + 672ull;
+    t1 = l9 + 352ull;
+    f148(m, t0, t1, l17, l13);
+    w0 = I32_LOAD8_U(m, l9 + 672u);
     w0 = w0 == 0;
-    if (w0) goto L144;
-    t0 = l52 + 24ull;
+    if (w0) goto L170;
+    t0 = I64_LOAD(m, l9 + 856u);
+    l18 = t0;
+    t0 = I64_LOAD(m, l9 + 840u);
+    l17 = t0;
+    t0 = I64_LOAD(m, l9 + 848u);
+    l2 = t0;
+    w0 = l2 == 0;
+    if (w0) goto L171;
+    l4 = l17;
+    L172:;
+    w0 = I32_LOAD8_U(m, l4);
+    w0 = w0 == 0;
+    if (w0) goto L173;
+    t0 = l4 + 24ull;
+    t0 = I64_LOAD(m, t0);
+    l10 = t0;
+    w0 = l10 == 0;
+    if (w0) goto L173;
+    t0 = l4 + 32ull;
+    t0 = I64_LOAD(m, t0);
+    l3 = t0;
+    t0 = l3 + 16ull;
+    t0 = I64_LOAD(m, t0);
+    w0 = t0 != 1ull;
+    if (w0) goto L174;
+    t0 = l4 + 8ull;
+    t0 = I64_LOAD(m, t0);
+    t1 = l3 + 8ull;
+    t1 = I64_LOAD(m, t1);
+    l14 = t1;
+    t1 = I64_LOAD(m, l14);
+    t2 = l14 + 32ull;
+    l14 = t2;
+    t2 = I64_LOAD(m, l14);
+    l15 = t2;
+    t1 = t1 + l15;
+    w0 = t0 != t1;
+    if (w0) goto L174;
+    t0 = l10 << 4;
+    t0 = l15 + t0;
+    I64_STORE(m, l14, t0);
+    L174:;
+    t0 = l3 + 24ull;
+    l3 = t0;
+    t0 = I64_LOAD(m, l3);
+    t0 = t0 + 18446744073709551615ull;
+    I64_STORE(m, l3, t0);
+    L173:;
+    t0 = l4 + 136ull;
+    l4 = t0;
+    t0 = l2 + 18446744073709551615ull;
+    l2 = t0;
+    w0 = l2 != 0ull;
+    if (w0) goto L172;
+    L171:;
+    w0 = l18 == 0;
+    if (w0) goto L145;
+    t0 = I64_LOAD(m, l9 + 864u);
+    l4 = t0;
+    t0 = l4 + 16ull;
+    t0 = I64_LOAD(m, t0);
+    w0 = t0 != 1ull;
+    if (w0) goto L175;
+    t0 = l4 + 8ull;
+    t0 = I64_LOAD(m, t0);
     l2 = t0;
     t0 = I64_LOAD(m, l2);
-    l14 = t0;
-    w0 = l14 == 18446744073709551615ull;
-    if (w0) goto L144;
-    I64_STORE(m, l9 + 512u, l52);
-    t0 = l14 + 1ull;
+    t1 = l2 + 32ull;
+    l2 = t1;
+    t1 = I64_LOAD(m, l2);
+    l3 = t1;
+    t0 = t0 + l3;
+    w0 = l17 != t0;
+    if (w0) goto L175;
+    t0 = l18 * 136ull;
+    t0 = l3 + t0;
     I64_STORE(m, l2, t0);
-    I64_STORE(m, l9 + 504u, 4ull);
-    I64_STORE(m, l9 + 496u, 0ull);
-    I64_STORE(m, l9 + 488u, l4);
-    t0 = l9 + 568ull;
-    t1 = l9 + 280ull;
-    f150(m, t0, t1, l17, l13);
-    w0 = I32_LOAD8_U(m, l9 + 568u);
-    if (w0) goto L155;
-    t0 = I64_LOAD(m, l9 + 688u);
+    L175:;
+    t0 = l4 + 24ull;
     l4 = t0;
-    t0 = I64_LOAD(m, l9 + 680u);
+    t0 = I64_LOAD(m, l4);
+    t0 = t0 + 18446744073709551615ull;
+    I64_STORE(m, l4, t0);
+    goto L145;
+    L170:;
+    t0 = I64_LOAD(m, l9 + 792u);
+    l4 = t0;
+    t0 = I64_LOAD(m, l9 + 784u);
     l14 = t0;
-    t0 = I64_LOAD(m, l9 + 664u);
+    t0 = I64_LOAD(m, l9 + 768u);
     l15 = t0;
-    w0 = I32_LOAD8_U(m, l9 + 656u);
+    w0 = I32_LOAD8_U(m, l9 + 760u);
     l35 = w0;
-    t0 = I64_LOAD(m, l9 + 608u);
+    t0 = I64_LOAD(m, l9 + 712u);
     l2 = t0;
-    t0 = I64_LOAD(m, l9 + 584u);
+    t0 = I64_LOAD(m, l9 + 688u);
     l19 = t0;
-    w0 = I32_LOAD8_U(m, l9 + 576u);
+    w0 = I32_LOAD8_U(m, l9 + 680u);
     w0 = w0 != 1u;
-    t0 = I64_LOAD(m, l9 + 600u);
-    l70 = t0;
-    w1 = l70 == 0;
+    t0 = I64_LOAD(m, l9 + 704u);
+    l72 = t0;
+    w1 = l72 == 0;
     w0 = w0 | w1;
     l21 = w0;
-    t0 = l9 + 280ull;
-    t1 = l9 + 488ull;
-    w0 = f143(m, l68, l16, l10, l11, l3, l17, t1);
+    t0 = l9 + 352ull;
+    t1 = l9 + 840ull;
+    w0 = f144(m, l69, l16, l10, l11, l3, l17, t1);
     w0 = w0 & 255u;
-    t1 = l9 + 488ull;
-    t2 = l9 + 736ull;
-    w0 = f152(m, t0, w0, t1, l17, l13, t2);
+    t1 = l9 + 840ull;
+    t2 = l9 + 640ull;
+    w0 = f150(m, t0, w0, t1, l17, l13, t2);
     w0 = w0 & 255u;
-    if (w0) goto L154;
-    if (l21) goto L172;
+    if (w0) goto L153;
+    if (l21) goto L176;
     t0 = l2 + 16ull;
     t0 = I64_LOAD(m, t0);
     w0 = t0 != 1ull;
-    if (w0) goto L173;
+    if (w0) goto L177;
     t0 = l2 + 8ull;
     t0 = I64_LOAD(m, t0);
-    l71 = t0;
-    t0 = I64_LOAD(m, l71);
-    t1 = l71 + 32ull;
-    l71 = t1;
-    t1 = I64_LOAD(m, l71);
-    l72 = t1;
-    t0 = t0 + l72;
+    l73 = t0;
+    t0 = I64_LOAD(m, l73);
+    t1 = l73 + 32ull;
+    l73 = t1;
+    t1 = I64_LOAD(m, l73);
+    l74 = t1;
+    t0 = t0 + l74;
     w0 = l19 != t0;
-    if (w0) goto L173;
-    t0 = l70 << 3;
-    t0 = l72 + t0;
-    I64_STORE(m, l71, t0);
-    L173:;
+    if (w0) goto L177;
+    t0 = l72 << 3;
+    t0 = l74 + t0;
+    I64_STORE(m, l73, t0);
+    L177:;
     t0 = l2 + 24ull;
     l2 = t0;
     t0 = I64_LOAD(m, l2);
     t0 = t0 + 18446744073709551615ull;
     I64_STORE(m, l2, t0);
-    L172:;
+    L176:;
     w0 = l35 & 255u;
     w0 = w0 != 1u;
-    if (w0) goto L165;
+    if (w0) goto L163;
     w0 = l14 == 0;
-    if (w0) goto L165;
+    if (w0) goto L163;
     t0 = l4 + 16ull;
     t0 = I64_LOAD(m, t0);
     w0 = t0 != 1ull;
-    if (w0) goto L174;
+    if (w0) goto L178;
     t0 = l4 + 8ull;
     t0 = I64_LOAD(m, t0);
     l2 = t0;
@@ -121586,60 +120631,34 @@ static u32 f332(Machine *m, u64 l0, u64 l1, u64 l2, u64 l3, u64 l4, u64 l5, u64 
     l19 = t1;
     t0 = t0 + l19;
     w0 = l15 != t0;
-    if (w0) goto L174;
+    if (w0) goto L178;
     t0 = l14 << 1;
     t0 = l19 + t0;
     I64_STORE(m, l2, t0);
-    L174:;
+    L178:;
     t0 = l4 + 24ull;
     l4 = t0;
     t0 = I64_LOAD(m, l4);
     t0 = t0 + 18446744073709551615ull;
     I64_STORE(m, l4, t0);
-    L165:;
+    L163:;
     w0 = l13 + 1u;
-    l46 = w0;
+    l35 = w0;
     w0 = l13 & 255u;
     w0 = w0 < 31u;
-    if (w0) goto L164;
-    L157:;
+    if (w0) goto L162;
+    L155:;
     t0 = l17 + 1ull;
     l17 = t0;
     w0 = l17 != l18;
-    if (w0) goto L156;
-    l46 = 0u;
+    if (w0) goto L154;
     goto L144;
-    L155:;
-    t0 = l52 + 16ull;
-    t0 = I64_LOAD(m, t0);
-    w0 = t0 != 1ull;
-    if (w0) goto L175;
-    t0 = l52 + 8ull;
-    t0 = I64_LOAD(m, t0);
-    l2 = t0;
-    t0 = I64_LOAD(m, l2);
-    t1 = l2 + 32ull;
-    l2 = t1;
-    t1 = I64_LOAD(m, l2);
-    l3 = t1;
-    t0 = t0 + l3;
-    w0 = l4 != t0;
-    if (w0) goto L175;
-    t0 = l3 + 544ull;
-    I64_STORE(m, l2, t0);
-    L175:;
-    t0 = l52 + 24ull;
-    l4 = t0;
-    t0 = I64_LOAD(m, l4);
-    t0 = t0 + 18446744073709551615ull;
-    I64_STORE(m, l4, t0);
-    goto L144;
-    L154:;
-    if (l21) goto L176;
+    L153:;
+    if (l21) goto L179;
     t0 = l2 + 16ull;
     t0 = I64_LOAD(m, t0);
     w0 = t0 != 1ull;
-    if (w0) goto L177;
+    if (w0) goto L180;
     t0 = l2 + 8ull;
     t0 = I64_LOAD(m, t0);
     l3 = t0;
@@ -121650,26 +120669,26 @@ static u32 f332(Machine *m, u64 l0, u64 l1, u64 l2, u64 l3, u64 l4, u64 l5, u64 
     l10 = t1;
     t0 = t0 + l10;
     w0 = l19 != t0;
-    if (w0) goto L177;
-    t0 = l70 << 3;
+    if (w0) goto L180;
+    t0 = l72 << 3;
     t0 = l10 + t0;
     I64_STORE(m, l3, t0);
-    L177:;
+    L180:;
     t0 = l2 + 24ull;
     l2 = t0;
     t0 = I64_LOAD(m, l2);
     t0 = t0 + 18446744073709551615ull;
     I64_STORE(m, l2, t0);
-    L176:;
+    L179:;
     w0 = l35 & 255u;
     w0 = w0 != 1u;
-    if (w0) goto L144;
+    if (w0) goto L145;
     w0 = l14 == 0;
-    if (w0) goto L144;
+    if (w0) goto L145;
     t0 = l4 + 16ull;
     t0 = I64_LOAD(m, t0);
     w0 = t0 != 1ull;
-    if (w0) goto L178;
+    if (w0) goto L181;
     t0 = l4 + 8ull;
     t0 = I64_LOAD(m, t0);
     l2 = t0;
@@ -121680,24 +120699,26 @@ static u32 f332(Machine *m, u64 l0, u64 l1, u64 l2, u64 l3, u64 l4, u64 l5, u64 
     l3 = t1;
     t0 = t0 + l3;
     w0 = l15 != t0;
-    if (w0) goto L178;
+    if (w0) goto L181;
     t0 = l14 << 1;
     t0 = l3 + t0;
     I64_STORE(m, l2, t0);
-    L178:;
+    L181:;
     t0 = l4 + 24ull;
     l4 = t0;
     t0 = I64_LOAD(m, l4);
     t0 = t0 + 18446744073709551615ull;
     I64_STORE(m, l4, t0);
+    L145:;
+    l46 = 1u;
     L144:;
-    w0 = l48 == 0;
-    if (w0) goto L179;
-    t0 = l49 + 16ull;
+    w0 = l59 == 0;
+    if (w0) goto L182;
+    t0 = l58 + 16ull;
     t0 = I64_LOAD(m, t0);
     w0 = t0 != 1ull;
-    if (w0) goto L180;
-    t0 = l49 + 8ull;
+    if (w0) goto L183;
+    t0 = l58 + 8ull;
     t0 = I64_LOAD(m, t0);
     l4 = t0;
     t0 = I64_LOAD(m, l4);
@@ -121707,50 +120728,23 @@ static u32 f332(Machine *m, u64 l0, u64 l1, u64 l2, u64 l3, u64 l4, u64 l5, u64 
     l2 = t1;
     t0 = t0 + l2;
     w0 = l11 != t0;
-    if (w0) goto L180;
-    t0 = l48 << 3;
+    if (w0) goto L183;
+    t0 = l59 << 3;
     t0 = l2 + t0;
     I64_STORE(m, l4, t0);
-    L180:;
-    t0 = l49 + 24ull;
+    L183:;
+    t0 = l58 + 24ull;
     l4 = t0;
     t0 = I64_LOAD(m, l4);
     t0 = t0 + 18446744073709551615ull;
     I64_STORE(m, l4, t0);
-    L179:;
-    w0 = l56 == 0;
-    if (w0) goto L103;
-    t0 = l55 + 16ull;
-    t0 = I64_LOAD(m, t0);
-    w0 = t0 != 1ull;
-    if (w0) goto L181;
-    t0 = l55 + 8ull;
-    t0 = I64_LOAD(m, t0);
-    l4 = t0;
-    t0 = I64_LOAD(m, l4);
-    t1 = l4 + 32ull;
-    l4 = t1;
-    t1 = I64_LOAD(m, l4);
-    l2 = t1;
-    t0 = t0 + l2;
-    w0 = l12 != t0;
-    if (w0) goto L181;
-    t0 = l56 << 3;
-    t0 = l2 + t0;
-    I64_STORE(m, l4, t0);
-    L181:;
-    t0 = l55 + 24ull;
-    l4 = t0;
-    t0 = I64_LOAD(m, l4);
-    t0 = t0 + 18446744073709551615ull;
-    I64_STORE(m, l4, t0);
-    L103:;
+    L182:;
     w0 = l54 == 0;
-    if (w0) goto L182;
+    if (w0) goto L103;
     t0 = l53 + 16ull;
     t0 = I64_LOAD(m, t0);
     w0 = t0 != 1ull;
-    if (w0) goto L183;
+    if (w0) goto L184;
     t0 = l53 + 8ull;
     t0 = I64_LOAD(m, t0);
     l4 = t0;
@@ -121760,50 +120754,77 @@ static u32 f332(Machine *m, u64 l0, u64 l1, u64 l2, u64 l3, u64 l4, u64 l5, u64 
     t1 = I64_LOAD(m, l4);
     l2 = t1;
     t0 = t0 + l2;
-    w0 = l16 != t0;
-    if (w0) goto L183;
-    t0 = l54 << 4;
+    w0 = l12 != t0;
+    if (w0) goto L184;
+    t0 = l54 << 3;
     t0 = l2 + t0;
     I64_STORE(m, l4, t0);
-    L183:;
+    L184:;
     t0 = l53 + 24ull;
     l4 = t0;
     t0 = I64_LOAD(m, l4);
     t0 = t0 + 18446744073709551615ull;
     I64_STORE(m, l4, t0);
-    L182:;
-    t0 = I64_LOAD(m, l9 + 744u);
-    l16 = t0;
-    t0 = I64_LOAD(m, l9 + 760u);
+    L103:;
+    w0 = l52 == 0;
+    if (w0) goto L185;
+    t0 = l49 + 16ull;
+    t0 = I64_LOAD(m, t0);
+    w0 = t0 != 1ull;
+    if (w0) goto L186;
+    t0 = l49 + 8ull;
+    t0 = I64_LOAD(m, t0);
+    l4 = t0;
+    t0 = I64_LOAD(m, l4);
+    t1 = l4 + 32ull;
+    l4 = t1;
+    t1 = I64_LOAD(m, l4);
+    l2 = t1;
+    t0 = t0 + l2;
+    w0 = l16 != t0;
+    if (w0) goto L186;
+    t0 = l52 << 4;
+    t0 = l2 + t0;
+    I64_STORE(m, l4, t0);
+    L186:;
+    t0 = l49 + 24ull;
+    l4 = t0;
+    t0 = I64_LOAD(m, l4);
+    t0 = t0 + 18446744073709551615ull;
+    I64_STORE(m, l4, t0);
+    L185:;
+    t0 = I64_LOAD(m, l9 + 648u);
+    l14 = t0;
+    t0 = I64_LOAD(m, l9 + 664u);
     l49 = t0;
-    t0 = I64_LOAD(m, l9 + 736u);
+    t0 = I64_LOAD(m, l9 + 640u);
     l47 = t0;
     if (l46) goto L70;
-    t0 = I64_LOAD(m, l9 + 752u);
+    t0 = I64_LOAD(m, l9 + 656u);
     l48 = t0;
     goto L53;
     L70:;
-    t0 = I64_LOAD(m, l9 + 752u);
+    t0 = I64_LOAD(m, l9 + 656u);
     l10 = t0;
-    w0 = l16 == 0;
-    if (w0) goto L184;
+    w0 = l14 == 0;
+    if (w0) goto L187;
     l4 = l47;
-    L185:;
+    L188:;
     w0 = I32_LOAD8_U(m, l4);
     w0 = w0 == 0;
-    if (w0) goto L186;
+    if (w0) goto L189;
     t0 = l4 + 24ull;
     t0 = I64_LOAD(m, t0);
     l3 = t0;
     w0 = l3 == 0;
-    if (w0) goto L186;
+    if (w0) goto L189;
     t0 = l4 + 32ull;
     t0 = I64_LOAD(m, t0);
     l2 = t0;
     t0 = l2 + 16ull;
     t0 = I64_LOAD(m, t0);
     w0 = t0 != 1ull;
-    if (w0) goto L187;
+    if (w0) goto L190;
     t0 = l4 + 8ull;
     t0 = I64_LOAD(m, t0);
     t1 = l2 + 8ull;
@@ -121816,31 +120837,31 @@ static u32 f332(Machine *m, u64 l0, u64 l1, u64 l2, u64 l3, u64 l4, u64 l5, u64 
     l11 = t2;
     t1 = t1 + l11;
     w0 = t0 != t1;
-    if (w0) goto L187;
+    if (w0) goto L190;
     t0 = l3 << 4;
     t0 = l11 + t0;
     I64_STORE(m, l12, t0);
-    L187:;
+    L190:;
     t0 = l2 + 24ull;
     l2 = t0;
     t0 = I64_LOAD(m, l2);
     t0 = t0 + 18446744073709551615ull;
     I64_STORE(m, l2, t0);
-    L186:;
+    L189:;
     t0 = l4 + 136ull;
     l4 = t0;
-    t0 = l16 + 18446744073709551615ull;
-    l16 = t0;
-    w0 = l16 != 0ull;
-    if (w0) goto L185;
-    L184:;
+    t0 = l14 + 18446744073709551615ull;
+    l14 = t0;
+    w0 = l14 != 0ull;
+    if (w0) goto L188;
+    L187:;
     l22 = 1u;
     w0 = l10 == 0;
     if (w0) goto L56;
     t0 = l49 + 16ull;
     t0 = I64_LOAD(m, t0);
     w0 = t0 != 1ull;
-    if (w0) goto L188;
+    if (w0) goto L191;
     t0 = l49 + 8ull;
     t0 = I64_LOAD(m, t0);
     l4 = t0;
@@ -121851,11 +120872,11 @@ static u32 f332(Machine *m, u64 l0, u64 l1, u64 l2, u64 l3, u64 l4, u64 l5, u64 
     l2 = t1;
     t0 = t0 + l2;
     w0 = l47 != t0;
-    if (w0) goto L188;
+    if (w0) goto L191;
     t0 = l10 * 136ull;
     t0 = l2 + t0;
     I64_STORE(m, l4, t0);
-    L188:;
+    L191:;
     t0 = l49 + 24ull;
     l4 = t0;
     t0 = I64_LOAD(m, l4);
@@ -121864,14 +120885,14 @@ static u32 f332(Machine *m, u64 l0, u64 l1, u64 l2, u64 l3, u64 l4, u64 l5, u64 
     L56:;
     l48 = 0ull;
     L55:;
-    l16 = 0ull;
+    l14 = 0ull;
     l47 = 0ull;
     l49 = 0ull;
     goto L53;
     L54:;
-    t0 = I64_LOAD(m, l9 + 440u);
+    t0 = I64_LOAD(m, l9 + 512u);
     l47 = t0;
-    t0 = I64_LOAD(m, l9 + 448u);
+    t0 = I64_LOAD(m, l9 + 520u);
     l12 = t0;
     t0 = l12 * 136ull;
     t0 = l47 + t0;
@@ -121887,35 +120908,35 @@ static u32 f332(Machine *m, u64 l0, u64 l1, u64 l2, u64 l3, u64 l4, u64 l5, u64 
     I64_STORE(m, t0, l14);
     t0 = l4 + 8ull;
     I64_STORE(m, t0, l10);
-    t0 = I64_LOAD(m, l9 + 464u);
+    t0 = I64_LOAD(m, l9 + 536u);
     l49 = t0;
     t0 = l4 + 40ull;
-    t1 = l9 + 488ull;
+    t1 = l9 + 560ull;
     MEMORY_COPY(m, t0, t1, 80ull);
     t0 = l4 + 128ull;
     I64_STORE(m, t0, l3);
     t0 = l4 + 120ull;
     I64_STORE(m, t0, l15);
     t0 = l12 + 1ull;
-    l16 = t0;
+    l14 = t0;
     l22 = 0u;
-    t0 = I64_LOAD(m, l9 + 456u);
+    t0 = I64_LOAD(m, l9 + 528u);
     l48 = t0;
     L53:;
-    w0 = I32_LOAD8_U(m, l9 + 280u);
+    w0 = I32_LOAD8_U(m, l9 + 352u);
     w0 = w0 != 1u;
-    if (w0) goto L189;
-    t0 = I64_LOAD(m, l9 + 304u);
+    if (w0) goto L192;
+    t0 = I64_LOAD(m, l9 + 376u);
     l2 = t0;
     w0 = l2 == 0;
-    if (w0) goto L189;
-    t0 = I64_LOAD(m, l9 + 312u);
+    if (w0) goto L192;
+    t0 = I64_LOAD(m, l9 + 384u);
     l4 = t0;
     t0 = l4 + 16ull;
     t0 = I64_LOAD(m, t0);
     w0 = t0 != 1ull;
-    if (w0) goto L190;
-    t0 = I64_LOAD(m, l9 + 288u);
+    if (w0) goto L193;
+    t0 = I64_LOAD(m, l9 + 360u);
     t1 = l4 + 8ull;
     t1 = I64_LOAD(m, t1);
     l3 = t1;
@@ -121926,31 +120947,31 @@ static u32 f332(Machine *m, u64 l0, u64 l1, u64 l2, u64 l3, u64 l4, u64 l5, u64 
     l12 = t2;
     t1 = t1 + l12;
     w0 = t0 != t1;
-    if (w0) goto L190;
+    if (w0) goto L193;
     t0 = l2 << 3;
     t0 = l12 + t0;
     I64_STORE(m, l3, t0);
-    L190:;
+    L193:;
     t0 = l4 + 24ull;
     l4 = t0;
     t0 = I64_LOAD(m, l4);
     t0 = t0 + 18446744073709551615ull;
     I64_STORE(m, l4, t0);
-    L189:;
-    w0 = I32_LOAD8_U(m, l9 + 360u);
+    L192:;
+    w0 = I32_LOAD8_U(m, l9 + 432u);
     w0 = w0 != 1u;
-    if (w0) goto L191;
-    t0 = I64_LOAD(m, l9 + 384u);
+    if (w0) goto L194;
+    t0 = I64_LOAD(m, l9 + 456u);
     l2 = t0;
     w0 = l2 == 0;
-    if (w0) goto L191;
-    t0 = I64_LOAD(m, l9 + 392u);
+    if (w0) goto L194;
+    t0 = I64_LOAD(m, l9 + 464u);
     l4 = t0;
     t0 = l4 + 16ull;
     t0 = I64_LOAD(m, t0);
     w0 = t0 != 1ull;
-    if (w0) goto L192;
-    t0 = I64_LOAD(m, l9 + 368u);
+    if (w0) goto L195;
+    t0 = I64_LOAD(m, l9 + 440u);
     t1 = l4 + 8ull;
     t1 = I64_LOAD(m, t1);
     l3 = t1;
@@ -121961,93 +120982,93 @@ static u32 f332(Machine *m, u64 l0, u64 l1, u64 l2, u64 l3, u64 l4, u64 l5, u64 
     l12 = t2;
     t1 = t1 + l12;
     w0 = t0 != t1;
-    if (w0) goto L192;
+    if (w0) goto L195;
     t0 = l2 << 1;
     t0 = l12 + t0;
     I64_STORE(m, l3, t0);
-    L192:;
+    L195:;
     t0 = l4 + 24ull;
     l4 = t0;
     t0 = I64_LOAD(m, l4);
     t0 = t0 + 18446744073709551615ull;
     I64_STORE(m, l4, t0);
-    L191:;
+    L194:;
     w0 = l22 == 0;
     if (w0) goto L51;
     l46 = 0u;
-    l15 = 5ull;
+    l16 = 5ull;
     l13 = 0u;
     goto L49;
     L51:;
-    I64_STORE(m, l9 + 776u, 0ull);
-    I64_STORE(m, l9 + 784u, 0ull);
-    I64_STORE(m, l9 + 792u, 0ull);
-    I64_STORE(m, l9 + 800u, 0ull);
-    I64_STORE(m, l9 + 736u, 0ull);
-    I64_STORE(m, l9 + 744u, 0ull);
-    I64_STORE(m, l9 + 752u, 0ull);
-    I64_STORE(m, l9 + 760u, 0ull);
-    I64_STORE(m, l9 + 767u, 0ull);
-    t0 = l9 + 280ull;
-    MEMORY_FILL(m, t0, 0u, 96ull);
-    I64_STORE(m, l9 + 528u, 0ull);
-    I64_STORE(m, l9 + 520u, 0ull);
+    I64_STORE(m, l9 + 840u, 0ull);
+    I64_STORE(m, l9 + 848u, 0ull);
+    I64_STORE(m, l9 + 856u, 0ull);
+    I64_STORE(m, l9 + 864u, 0ull);
     I64_STORE(m, l9 + 512u, 0ull);
-    I64_STORE(m, l9 + 504u, 0ull);
-    I64_STORE(m, l9 + 496u, 0ull);
-    I64_STORE(m, l9 + 488u, 0ull);
-    I64_STORE(m, l9 + 208u, 0ull);
-    I64_STORE(m, l9 + 216u, 0ull);
-    I64_STORE(m, l9 + 224u, 0ull);
-    I64_STORE(m, l9 + 232u, 0ull);
-    I64_STORE(m, l9 + 240u, 0ull);
-    I64_STORE(m, l9 + 248u, 0ull);
-    I64_STORE(m, l9 + 128u, 0ull);
-    I64_STORE(m, l9 + 136u, 0ull);
-    I64_STORE(m, l9 + 144u, 0ull);
+    I64_STORE(m, l9 + 520u, 0ull);
+    I64_STORE(m, l9 + 528u, 0ull);
+    I64_STORE(m, l9 + 536u, 0ull);
+    I64_STORE(m, l9 + 543u, 0ull);
+    t0 = l9 + 352ull;
+    MEMORY_FILL(m, t0, 0u, 96ull);
+    I64_STORE(m, l9 + 600u, 0ull);
+    I64_STORE(m, l9 + 592u, 0ull);
+    I64_STORE(m, l9 + 584u, 0ull);
+    I64_STORE(m, l9 + 576u, 0ull);
+    I64_STORE(m, l9 + 568u, 0ull);
+    I64_STORE(m, l9 + 560u, 0ull);
+    I64_STORE(m, l9 + 280u, 0ull);
+    I64_STORE(m, l9 + 288u, 0ull);
+    I64_STORE(m, l9 + 296u, 0ull);
+    I64_STORE(m, l9 + 304u, 0ull);
+    I64_STORE(m, l9 + 312u, 0ull);
+    I64_STORE(m, l9 + 320u, 0ull);
     I64_STORE(m, l9 + 152u, 0ull);
     I64_STORE(m, l9 + 160u, 0ull);
     I64_STORE(m, l9 + 168u, 0ull);
-    I64_STORE(m, l9 + 576u, 0ull);
-    I64_STORE(m, l9 + 584u, 0ull);
+    I64_STORE(m, l9 + 176u, 0ull);
+    I64_STORE(m, l9 + 184u, 0ull);
+    I64_STORE(m, l9 + 192u, 0ull);
+    I64_STORE(m, l9 + 680u, 0ull);
+    I64_STORE(m, l9 + 688u, 0ull);
     t0 = l9 + 872ull;
-    I64_STORE(m, l9 + 568u, t0);
-    t0 = l9 + 24ull;
-    I64_STORE(m, l9 + 592u, t0);
-    w0 = l16 != 0ull;
-    if (w0) goto L196;
-    t0 = I64_LOAD(m, l9 + 592u);
+    I64_STORE(m, l9 + 672u, t0);
+    t0 = l9 + 16ull;
+    I64_STORE(m, l9 + 696u, t0);
+    w0 = l14 != 0ull;
+    if (w0) goto L199;
+    t0 = I64_LOAD(m, l9 + 696u);
     l4 = t0;
-    I64_STORE(m, l9 + 767u, l4);
-    t0 = I64_LOAD(m, l9 + 584u);
+    I64_STORE(m, l9 + 543u, l4);
+    t0 = I64_LOAD(m, l9 + 688u);
     l1 = t0;
-    I64_STORE(m, l9 + 759u, l1);
-    t0 = I64_LOAD(m, l9 + 576u);
-    l15 = t0;
-    I64_STORE(m, l9 + 751u, l15);
-    t0 = I64_LOAD(m, l9 + 568u);
-    l51 = t0;
-    I64_STORE(m, l9 + 743u, l51);
-    I64_STORE(m, l9 + 776u, l51);
-    I64_STORE(m, l9 + 784u, l15);
-    I64_STORE(m, l9 + 792u, l1);
-    I64_STORE(m, l9 + 800u, l4);
-    goto L195;
-    L196:;
-    t0 = l9 + 568ull;
-    w0 = f154(m, t0, l16);
-    if (w0) goto L197;
-    t0 = I64_LOAD(m, l9 + 584u);
+    I64_STORE(m, l9 + 535u, l1);
+    t0 = I64_LOAD(m, l9 + 680u);
+    l16 = t0;
+    I64_STORE(m, l9 + 527u, l16);
+    t0 = I64_LOAD(m, l9 + 672u);
+    l20 = t0;
+    I64_STORE(m, l9 + 519u, l20);
+    I64_STORE(m, l9 + 840u, l20);
+    I64_STORE(m, l9 + 848u, l16);
+    I64_STORE(m, l9 + 856u, l1);
+    I64_STORE(m, l9 + 864u, l4);
+    goto L198;
+    L199:;
+    t0 = l9 + 672ull;
+    w0 = f152(m, t0, l14);
+    if (w0) goto L200;
+    t0 = I64_LOAD(m, l9 + 688u);
     l1 = t0;
     w0 = l1 == 0;
-    if (w0) goto L198;
-    t0 = I64_LOAD(m, l9 + 592u);
+    if (w0) goto L201;
+    t0 = I64_LOAD(m, l9 + 696u);
     l4 = t0;
     t0 = l4 + 16ull;
     t0 = I64_LOAD(m, t0);
     w0 = t0 != 1ull;
-    if (w0) goto L199;
-    t0 = I64_LOAD(m, l9 + 568u);
+    if (w0) goto L202;
+    t0 = I64_LOAD(m, l9 + 672u);
     t1 = l4 + 8ull;
     t1 = I64_LOAD(m, t1);
     l2 = t1;
@@ -122058,34 +121079,34 @@ static u32 f332(Machine *m, u64 l0, u64 l1, u64 l2, u64 l3, u64 l4, u64 l5, u64 
     l0 = t2;
     t1 = t1 + l0;
     w0 = t0 != t1;
-    if (w0) goto L199;
+    if (w0) goto L202;
     t0 = l1 * 168ull;
     t0 = l0 + t0;
     I64_STORE(m, l2, t0);
-    L199:;
+    L202:;
     t0 = l4 + 24ull;
     l4 = t0;
     t0 = I64_LOAD(m, l4);
     t0 = t0 + 18446744073709551615ull;
     I64_STORE(m, l4, t0);
-    L198:;
+    L201:;
     l4 = l47;
-    L200:;
+    L203:;
     w0 = I32_LOAD8_U(m, l4);
     w0 = w0 == 0;
-    if (w0) goto L201;
+    if (w0) goto L204;
     t0 = l4 + 24ull;
     t0 = I64_LOAD(m, t0);
     l2 = t0;
     w0 = l2 == 0;
-    if (w0) goto L201;
+    if (w0) goto L204;
     t0 = l4 + 32ull;
     t0 = I64_LOAD(m, t0);
     l1 = t0;
     t0 = l1 + 16ull;
     t0 = I64_LOAD(m, t0);
     w0 = t0 != 1ull;
-    if (w0) goto L202;
+    if (w0) goto L205;
     t0 = l4 + 8ull;
     t0 = I64_LOAD(m, t0);
     t1 = l1 + 8ull;
@@ -122098,29 +121119,29 @@ static u32 f332(Machine *m, u64 l0, u64 l1, u64 l2, u64 l3, u64 l4, u64 l5, u64 
     l3 = t2;
     t1 = t1 + l3;
     w0 = t0 != t1;
-    if (w0) goto L202;
+    if (w0) goto L205;
     t0 = l2 << 4;
     t0 = l3 + t0;
     I64_STORE(m, l0, t0);
-    L202:;
+    L205:;
     t0 = l1 + 24ull;
     l1 = t0;
     t0 = I64_LOAD(m, l1);
     t0 = t0 + 18446744073709551615ull;
     I64_STORE(m, l1, t0);
-    L201:;
+    L204:;
     t0 = l4 + 136ull;
     l4 = t0;
-    t0 = l16 + 18446744073709551615ull;
-    l16 = t0;
-    w0 = l16 != 0ull;
-    if (w0) goto L200;
+    t0 = l14 + 18446744073709551615ull;
+    l14 = t0;
+    w0 = l14 != 0ull;
+    if (w0) goto L203;
     w0 = l48 == 0;
     if (w0) goto L50;
     t0 = l49 + 16ull;
     t0 = I64_LOAD(m, t0);
     w0 = t0 != 1ull;
-    if (w0) goto L203;
+    if (w0) goto L206;
     t0 = l49 + 8ull;
     t0 = I64_LOAD(m, t0);
     l4 = t0;
@@ -122131,163 +121152,123 @@ static u32 f332(Machine *m, u64 l0, u64 l1, u64 l2, u64 l3, u64 l4, u64 l5, u64 
     l1 = t1;
     t0 = t0 + l1;
     w0 = l47 != t0;
-    if (w0) goto L203;
+    if (w0) goto L206;
     t0 = l48 * 136ull;
     t0 = l1 + t0;
     I64_STORE(m, l4, t0);
-    L203:;
+    L206:;
     t0 = l49 + 24ull;
     l4 = t0;
     t0 = I64_LOAD(m, l4);
     t0 = t0 + 18446744073709551615ull;
     I64_STORE(m, l4, t0);
     goto L50;
-    L197:;
-    t0 = I64_LOAD(m, l9 + 592u);
+    L200:;
+    t0 = I64_LOAD(m, l9 + 696u);
     l4 = t0;
-    I64_STORE(m, l9 + 767u, l4);
-    t0 = I64_LOAD(m, l9 + 584u);
+    I64_STORE(m, l9 + 543u, l4);
+    t0 = I64_LOAD(m, l9 + 688u);
     l2 = t0;
-    I64_STORE(m, l9 + 759u, l2);
-    t0 = I64_LOAD(m, l9 + 576u);
+    I64_STORE(m, l9 + 535u, l2);
+    t0 = I64_LOAD(m, l9 + 680u);
     l3 = t0;
-    I64_STORE(m, l9 + 751u, l3);
-    t0 = I64_LOAD(m, l9 + 568u);
+    I64_STORE(m, l9 + 527u, l3);
+    t0 = I64_LOAD(m, l9 + 672u);
     l12 = t0;
-    I64_STORE(m, l9 + 743u, l12);
-    I64_STORE(m, l9 + 776u, l12);
-    I64_STORE(m, l9 + 784u, l3);
-    I64_STORE(m, l9 + 792u, l2);
-    I64_STORE(m, l9 + 800u, l4);
-    t0 = l1 & 1020ull;
-    l14 = t0;
-    t0 = l1 & 3ull;
-    l55 = t0;
-    t0 = l1 + 18446744073709551615ull;
-    l56 = t0;
-    t0 = l9 + 608ull;
-    l54 = t0;
-    t0 = l9 + 447ull;
+    I64_STORE(m, l9 + 519u, l12);
+    I64_STORE(m, l9 + 840u, l12);
+    I64_STORE(m, l9 + 848u, l3);
+    I64_STORE(m, l9 + 856u, l2);
+    I64_STORE(m, l9 + 864u, l4);
+    t0 = l1 & 1022ull;
     l10 = t0;
-    t0 = l9 + 840ull;
-    t0 = t0 + 8ull;
+    t0 = l1 & 1ull;
     l57 = t0;
-    t0 = l9 + 568ull;
+    t0 = l1 & 1020ull;
+    l15 = t0;
+    t0 = l1 & 3ull;
+    l56 = t0;
+    t0 = l9 + 712ull;
+    l55 = t0;
+    t0 = l9 + 672ull;
     t0 = t0 + 8ull;
-    l59 = t0;
-    l17 = 0ull;
-    l19 = l16;
-    L204:;
-    t0 = l17 * 136ull;
+    l50 = t0;
+    l18 = 0ull;
+    l17 = l14;
+    L207:;
+    t0 = l18 * 136ull;
     t0 = l47 + t0;
     l4 = t0;
     w0 = I32_LOAD8_U(m, l4);
     l22 = w0;
     t0 = (u64)l22;
-    l53 = t0;
-    I64_STORE(m, l9 + 568u, l53);
-    t0 = l4 + 8ull;
-    MEMORY_COPY(m, l59, t0, 128ull);
-    t0 = I64_LOAD(m, l9 + 576u);
-    l50 = t0;
-    t0 = I64_LOAD(m, l9 + 584u);
-    l52 = t0;
-    t0 = I64_LOAD(m, l9 + 688u);
     l51 = t0;
-    I64_STORE(m, l57, 0ull);
-    I64_STORE(m, l57 + 8u, 0ull);
-    t0 = l19 + 18446744073709551615ull;
-    l19 = t0;
-    t0 = l17 + 1ull;
-    l17 = t0;
-    t0 = l9 + 872ull;
-    I64_STORE(m, l9 + 840u, t0);
-    t0 = l9 + 24ull;
-    I64_STORE(m, l9 + 864u, t0);
-    w0 = l1 == 0;
-    l13 = w0;
-    if (l13) goto L205;
-    t0 = l9 + 840ull;
-    w0 = f155(m, t0, l1);
-    if (w0) goto L205;
-    t0 = I64_LOAD(m, l9 + 856u);
-    l1 = t0;
-    w0 = l1 == 0;
-    if (w0) goto L193;
-    t0 = I64_LOAD(m, l9 + 864u);
-    l4 = t0;
-    t0 = l4 + 16ull;
-    t0 = I64_LOAD(m, t0);
-    w0 = t0 != 1ull;
-    if (w0) goto L206;
-    t0 = I64_LOAD(m, l9 + 840u);
-    t1 = l4 + 8ull;
-    t1 = I64_LOAD(m, t1);
-    l2 = t1;
-    t1 = I64_LOAD(m, l2);
-    t2 = l2 + 32ull;
-    l2 = t2;
-    t2 = I64_LOAD(m, l2);
-    l0 = t2;
-    t1 = t1 + l0;
-    w0 = t0 != t1;
-    if (w0) goto L206;
-    t0 = l0 + l1;
-    I64_STORE(m, l2, t0);
-    L206:;
-    t0 = l4 + 24ull;
-    l4 = t0;
-    t0 = I64_LOAD(m, l4);
-    t0 = t0 + 18446744073709551615ull;
-    I64_STORE(m, l4, t0);
-    goto L193;
-    L205:;
-    t0 = I64_LOAD(m, l9 + 864u);
-    I64_STORE(m, l10 + 24u, t0);
-    t0 = I64_LOAD(m, l9 + 856u);
-    I64_STORE(m, l10 + 16u, t0);
-    t0 = I64_LOAD(m, l9 + 848u);
-    I64_STORE(m, l10 + 8u, t0);
-    t0 = I64_LOAD(m, l9 + 840u);
-    I64_STORE(m, l10, t0);
-    t0 = I64_LOAD(m, l10);
-    I64_STORE(m, l9 + 808u, t0);
-    t0 = I64_LOAD(m, l10 + 8u);
-    l15 = t0;
-    I64_STORE(m, l9 + 816u, l15);
-    t0 = I64_LOAD(m, l10 + 16u);
-    l20 = t0;
-    I64_STORE(m, l9 + 824u, l20);
-    t0 = I64_LOAD(m, l10 + 24u);
-    I64_STORE(m, l9 + 832u, t0);
-    t0 = l20 - l15;
-    w0 = l1 <= t0;
-    if (w0) goto L209;
-    t0 = l9 + 808ull;
-    w0 = f156(m, t0, l1);
-    l46 = w0;
-    t0 = I64_LOAD(m, l9 + 824u);
-    l20 = t0;
-    w0 = l46 == 0;
-    if (w0) goto L208;
-    t0 = I64_LOAD(m, l9 + 816u);
-    l15 = t0;
-    L209:;
-    t0 = l15 + l1;
-    l18 = t0;
-    t0 = I64_LOAD(m, l9 + 808u);
-    l11 = t0;
-    t0 = l11 + l15;
+    I64_STORE(m, l9 + 672u, l51);
+    t0 = l4 + 8ull;
+    MEMORY_COPY(m, l50, t0, 128ull);
+    t0 = I64_LOAD(m, l9 + 792u);
     l12 = t0;
-    t0 = l12 - l0;
+    t0 = I64_LOAD(m, l9 + 688u);
+    l16 = t0;
+    t0 = I64_LOAD(m, l9 + 680u);
+    l19 = t0;
+    t0 = l17 + 18446744073709551615ull;
+    l17 = t0;
+    t0 = l18 + 1ull;
+    l18 = t0;
+    w0 = l1 == 0;
+    l46 = w0;
+    w0 = l46 == 0;
+    if (w0) goto L209;
+    t0 = l9 + 872ull;
+    l11 = t0;
+    goto L208;
+    L209:;
+    t0 = I64_LOAD(m, l9 + 32u);
+    w0 = t0 == 0;
+    if (w0) goto L211;
+    t0 = I64_LOAD(m, l9 + 24u);
+    l4 = t0;
+    t0 = l4 + 32ull;
+    l2 = t0;
+    t0 = I64_LOAD(m, l2);
+    l3 = t0;
+    w0 = l3 < l1;
+    if (w0) goto L211;
+    t0 = l3 - l1;
+    l3 = t0;
+    I64_STORE(m, l2, l3);
+    t0 = I64_LOAD(m, l4);
+    t0 = t0 + l3;
+    l11 = t0;
+    l13 = 1u;
+    goto L210;
+    L211:;
+    t0 = l9 + 16ull;
+    f102(m, l9, t0, l1, 1ull);
+    t0 = I64_LOAD(m, l9 + 8u);
+    l11 = t0;
+    w0 = I32_LOAD8_U(m, l9);
+    l13 = w0;
+    L210:;
+    w0 = l13 & 1u;
+    w0 = w0 == 0;
+    if (w0) goto L196;
+    t0 = I64_LOAD(m, l9 + 40u);
+    l4 = t0;
+    w0 = l4 == 18446744073709551615ull;
+    if (w0) goto L196;
+    t0 = l4 + 1ull;
+    I64_STORE(m, l9 + 40u, t0);
+    t0 = l11 - l0;
     w0 = t0 >= l1;
-    if (w0) goto L210;
+    if (w0) goto L213;
     l2 = 0ull;
     w0 = l1 < 4ull;
-    if (w0) goto L211;
+    if (w0) goto L214;
     l2 = 0ull;
-    L212:;
-    t0 = l12 + l2;
+    L215:;
+    t0 = l11 + l2;
     l4 = t0;
     t0 = l0 + l2;
     l3 = t0;
@@ -122307,107 +121288,64 @@ static u32 f332(Machine *m, u64 l0, u64 l1, u64 l2, u64 l3, u64 l4, u64 l5, u64 
     I32_STORE8(m, t0, w0);
     t0 = l2 + 4ull;
     l2 = t0;
-    w0 = l14 != l2;
+    w0 = l15 != l2;
+    if (w0) goto L215;
+    w0 = l56 == 0;
     if (w0) goto L212;
-    w0 = l55 == 0;
-    if (w0) goto L207;
-    L211:;
-    t0 = l0 + l2;
+    L214:;
+    t0 = l11 + l2;
     l4 = t0;
-    t0 = l15 + l2;
-    t0 = l11 + t0;
+    t0 = l0 + l2;
     l2 = t0;
-    l3 = l55;
-    L213:;
-    w0 = I32_LOAD8_U(m, l4);
-    I32_STORE8(m, l2, w0);
-    t0 = l2 + 1ull;
-    l2 = t0;
+    l3 = l56;
+    L216:;
+    w0 = I32_LOAD8_U(m, l2);
+    I32_STORE8(m, l4, w0);
     t0 = l4 + 1ull;
     l4 = t0;
+    t0 = l2 + 1ull;
+    l2 = t0;
     t0 = l3 + 18446744073709551615ull;
     l3 = t0;
     w0 = l3 != 0ull;
-    if (w0) goto L213;
-    goto L207;
-    L210:;
-    if (l13) goto L207;
-    MEMORY_COPY(m, l12, l0, l1);
-    goto L207;
-    L208:;
-    w0 = l20 == 0;
-    if (w0) goto L193;
-    t0 = I64_LOAD(m, l9 + 832u);
-    l4 = t0;
-    t0 = l4 + 16ull;
-    t0 = I64_LOAD(m, t0);
-    w0 = t0 != 1ull;
-    if (w0) goto L214;
-    t0 = I64_LOAD(m, l9 + 808u);
-    t1 = l4 + 8ull;
-    t1 = I64_LOAD(m, t1);
-    l1 = t1;
-    t1 = I64_LOAD(m, l1);
-    t2 = l1 + 32ull;
-    l1 = t2;
-    t2 = I64_LOAD(m, l1);
-    l2 = t2;
-    t1 = t1 + l2;
-    w0 = t0 != t1;
-    if (w0) goto L214;
-    t0 = l2 + l20;
-    I64_STORE(m, l1, t0);
-    L214:;
-    t0 = l4 + 24ull;
-    l4 = t0;
-    t0 = I64_LOAD(m, l4);
-    t0 = t0 + 18446744073709551615ull;
-    I64_STORE(m, l4, t0);
-    goto L193;
-    L207:;
-    t0 = l22 ? l52 : l51;
-    l2 = t0;
-    t0 = I64_LOAD(m, l9 + 832u);
-    l58 = t0;
-    w0 = l18 == 0;
-    if (w0) goto L215;
-    l4 = 0ull;
-    t0 = 0ull - l15;
-    w0 = l56 == t0;
     if (w0) goto L216;
-    t0 = l18 & 1ull;
-    l15 = t0;
-    t0 = l18 & 18446744073709551614ull;
-    l12 = t0;
+    goto L212;
+    L213:;
+    if (l46) goto L212;
+    MEMORY_COPY(m, l11, l0, l1);
+    L212:;
     l4 = 0ull;
-    L217:;
+    w0 = l1 == 1ull;
+    if (w0) goto L217;
+    l4 = 0ull;
+    L218:;
     t0 = l11 + l4;
-    l3 = t0;
-    w0 = I32_LOAD8_U(m, l3);
+    l2 = t0;
+    w0 = I32_LOAD8_U(m, l2);
     l13 = w0;
     w0 = l13 + 32u;
     w1 = l13 + 4294967231u;
     w1 = w1 & 255u;
     w1 = w1 < 26u;
     w0 = w1 ? w0 : l13;
-    I32_STORE8(m, l3, w0);
-    t0 = l3 + 1ull;
-    l3 = t0;
-    w0 = I32_LOAD8_U(m, l3);
+    I32_STORE8(m, l2, w0);
+    t0 = l2 + 1ull;
+    l2 = t0;
+    w0 = I32_LOAD8_U(m, l2);
     l13 = w0;
     w0 = l13 + 32u;
     w1 = l13 + 4294967231u;
     w1 = w1 & 255u;
     w1 = w1 < 26u;
     w0 = w1 ? w0 : l13;
-    I32_STORE8(m, l3, w0);
+    I32_STORE8(m, l2, w0);
     t0 = l4 + 2ull;
     l4 = t0;
-    w0 = l12 != l4;
-    if (w0) goto L217;
-    w0 = l15 == 0;
-    if (w0) goto L215;
-    L216:;
+    w0 = l10 != l4;
+    if (w0) goto L218;
+    w0 = l57 == 0;
+    if (w0) goto L208;
+    L217:;
     t0 = l11 + l4;
     l4 = t0;
     w0 = I32_LOAD8_U(m, l4);
@@ -122418,14 +121356,16 @@ static u32 f332(Machine *m, u64 l0, u64 l1, u64 l2, u64 l3, u64 l4, u64 l5, u64 
     w1 = w1 < 26u;
     w0 = w1 ? w0 : l13;
     I32_STORE8(m, l4, w0);
-    L215:;
+    L208:;
+    t0 = l22 ? l16 : l12;
+    l2 = t0;
     w0 = l2 == 0;
-    if (w0) goto L218;
-    t0 = l22 ? l50 : l59;
+    if (w0) goto L219;
+    t0 = l22 ? l19 : l50;
     l4 = t0;
-    t0 = l11 + l18;
+    t0 = l11 + l1;
     l12 = t0;
-    L219:;
+    L220:;
     t0 = I64_LOAD(m, l4);
     t0 = t0 ^ 18446744073709551615ull;
     t0 = l12 + t0;
@@ -122446,107 +121386,108 @@ static u32 f332(Machine *m, u64 l0, u64 l1, u64 l2, u64 l3, u64 l4, u64 l5, u64 
     l2 = t0;
     w0 = l2 == 0;
     w0 = w0 == 0;
-    if (w0) goto L219;
-    L218:;
-    t0 = I64_LOAD(m, l9 + 600u);
+    if (w0) goto L220;
+    L219:;
+    t0 = I64_LOAD(m, l9 + 704u);
     l3 = t0;
-    t0 = I64_LOAD(m, l9 + 592u);
+    t0 = I64_LOAD(m, l9 + 696u);
     l12 = t0;
-    t0 = l9 + 280ull;
-    MEMORY_COPY(m, t0, l54, 96ull);
-    t0 = I64_LOAD(m, l9 + 792u);
-    t1 = I64_LOAD(m, l9 + 784u);
+    t0 = l9 + 352ull;
+    MEMORY_COPY(m, t0, l55, 96ull);
+    t0 = I64_LOAD(m, l9 + 856u);
+    t1 = I64_LOAD(m, l9 + 848u);
     l2 = t1;
     w0 = t0 != l2;
-    if (w0) goto L220;
-    t0 = l9 + 776ull;
-    w0 = f157(m, t0);
+    if (w0) goto L221;
+    t0 = l9 + 840ull;
+    w0 = f153(m, t0);
     w0 = w0 == 0;
-    if (w0) goto L194;
-    t0 = I64_LOAD(m, l9 + 784u);
+    if (w0) goto L197;
+    t0 = I64_LOAD(m, l9 + 848u);
     l2 = t0;
-    L220:;
-    t0 = I64_LOAD(m, l9 + 776u);
-    l51 = t0;
+    L221:;
+    t0 = I64_LOAD(m, l9 + 840u);
+    l20 = t0;
     t0 = l2 * 168ull;
-    t0 = l51 + t0;
+    t0 = l20 + t0;
     l4 = t0;
-    I64_STORE(m, l4, l53);
+    I64_STORE(m, l4, l51);
     t0 = l4 + 32ull;
     I64_STORE(m, t0, l3);
     t0 = l4 + 24ull;
     I64_STORE(m, t0, l12);
     t0 = l4 + 16ull;
-    I64_STORE(m, t0, l52);
+    I64_STORE(m, t0, l16);
     t0 = l4 + 8ull;
-    I64_STORE(m, t0, l50);
+    I64_STORE(m, t0, l19);
     t0 = l4 + 40ull;
-    t1 = l9 + 280ull;
+    t1 = l9 + 352ull;
     MEMORY_COPY(m, t0, t1, 96ull);
-    t0 = l4 + 160ull;
-    I64_STORE(m, t0, l58);
     t0 = l4 + 152ull;
-    I64_STORE(m, t0, l20);
+    I64_STORE(m, t0, l1);
     t0 = l4 + 144ull;
-    I64_STORE(m, t0, l18);
+    I64_STORE(m, t0, l1);
     t0 = l4 + 136ull;
     I64_STORE(m, t0, l11);
+    t0 = l4 + 160ull;
+    t1 = l9 + 16ull;
+    I64_STORE(m, t0, t1);
     t0 = l2 + 1ull;
-    l15 = t0;
-    I64_STORE(m, l9 + 784u, l15);
-    w0 = l19 == 0;
+    l16 = t0;
+    I64_STORE(m, l9 + 848u, l16);
+    w0 = l17 == 0;
     w0 = w0 == 0;
-    if (w0) goto L204;
-    L195:;
-    I64_STORE(m, l9 + 168u, l49);
-    l14 = 0ull;
+    if (w0) goto L207;
+    L198:;
+    I64_STORE(m, l9 + 192u, l49);
+    l15 = 0ull;
+    I64_STORE(m, l9 + 184u, 0ull);
+    I64_STORE(m, l9 + 176u, l14);
+    I64_STORE(m, l9 + 168u, l48);
     I64_STORE(m, l9 + 160u, 0ull);
-    I64_STORE(m, l9 + 152u, l16);
-    I64_STORE(m, l9 + 144u, l48);
-    I64_STORE(m, l9 + 136u, 0ull);
-    I64_STORE(m, l9 + 128u, l47);
-    t0 = l9 + 128ull;
-    f159(m, t0);
-    t0 = I64_LOAD(m, l9 + 800u);
+    I64_STORE(m, l9 + 152u, l47);
+    t0 = l9 + 152ull;
+    f155(m, t0);
+    t0 = I64_LOAD(m, l9 + 864u);
     l18 = t0;
-    t0 = I64_LOAD(m, l9 + 792u);
+    t0 = I64_LOAD(m, l9 + 856u);
     l17 = t0;
     l13 = 1u;
     l46 = 1u;
-    w0 = l15 == 0;
-    if (w0) goto L221;
+    w0 = l16 == 0;
+    if (w0) goto L222;
     w0 = l6 == 0;
     t0 = w0 ? 4096ull : 0ull;
     t0 = l6 + t0;
-    l16 = t0;
+    l14 = t0;
     l10 = 0ull;
-    L223:;
+    L224:;
     t0 = l7 - l10;
-    t1 = l14 * 168ull;
-    t1 = l51 + t1;
+    t1 = l15 * 168ull;
+    t1 = l20 + t1;
     l4 = t1;
     t1 = l4 + 144ull;
     t1 = I64_LOAD(m, t1);
     l11 = t1;
     w0 = t0 < l11;
-    if (w0) goto L222;
-    t0 = l16 + l10;
+    if (w0) goto L223;
+    t0 = l14 + l10;
     l12 = t0;
     t0 = l4 + 136ull;
     t0 = I64_LOAD(m, t0);
     l3 = t0;
     t0 = l12 - l3;
     w0 = t0 >= l11;
-    if (w0) goto L225;
+    if (w0) goto L226;
     t0 = l11 & 3ull;
     l0 = t0;
     l1 = 0ull;
     w0 = l11 < 4ull;
-    if (w0) goto L226;
+    if (w0) goto L227;
     t0 = l11 & 18446744073709551612ull;
     l6 = t0;
     l1 = 0ull;
-    L227:;
+    L228:;
     t0 = l12 + l1;
     l4 = t0;
     t0 = l3 + l1;
@@ -122568,16 +121509,16 @@ static u32 f332(Machine *m, u64 l0, u64 l1, u64 l2, u64 l3, u64 l4, u64 l5, u64 
     t0 = l1 + 4ull;
     l1 = t0;
     w0 = l6 != l1;
-    if (w0) goto L227;
+    if (w0) goto L228;
     w0 = l0 == 0;
-    if (w0) goto L224;
-    L226:;
+    if (w0) goto L225;
+    L227:;
     t0 = l3 + l1;
     l4 = t0;
     t0 = l10 + l1;
-    t0 = l16 + t0;
+    t0 = l14 + t0;
     l1 = t0;
-    L228:;
+    L229:;
     w0 = I32_LOAD8_U(m, l4);
     I32_STORE8(m, l1, w0);
     t0 = l1 + 1ull;
@@ -122587,24 +121528,24 @@ static u32 f332(Machine *m, u64 l0, u64 l1, u64 l2, u64 l3, u64 l4, u64 l5, u64 
     t0 = l0 + 18446744073709551615ull;
     l0 = t0;
     w0 = l0 != 0ull;
-    if (w0) goto L228;
-    goto L224;
-    L225:;
+    if (w0) goto L229;
+    goto L225;
+    L226:;
     w0 = l11 == 0;
-    if (w0) goto L224;
+    if (w0) goto L225;
     MEMORY_COPY(m, l12, l3, l11);
-    L224:;
+    L225:;
     t0 = l11 + l10;
     l10 = t0;
-    t0 = l14 + 1ull;
-    l14 = t0;
-    w0 = l14 != l15;
-    if (w0) goto L223;
-    l14 = l15;
-    L222:;
-    l4 = l51;
-    l0 = l15;
-    L229:;
+    t0 = l15 + 1ull;
+    l15 = t0;
+    w0 = l15 != l16;
+    if (w0) goto L224;
+    l15 = l16;
+    L223:;
+    l4 = l20;
+    l0 = l16;
+    L230:;
     t0 = l4 + 160ull;
     t0 = I64_LOAD(m, t0);
     l1 = t0;
@@ -122616,19 +121557,19 @@ static u32 f332(Machine *m, u64 l0, u64 l1, u64 l2, u64 l3, u64 l4, u64 l5, u64 
     l3 = t0;
     w0 = I32_LOAD8_U(m, l4);
     w0 = w0 == 0;
-    if (w0) goto L230;
+    if (w0) goto L231;
     t0 = l4 + 24ull;
     t0 = I64_LOAD(m, t0);
     l7 = t0;
     w0 = l7 == 0;
-    if (w0) goto L230;
+    if (w0) goto L231;
     t0 = l4 + 32ull;
     t0 = I64_LOAD(m, t0);
     l12 = t0;
     t0 = l12 + 16ull;
     t0 = I64_LOAD(m, t0);
     w0 = t0 != 1ull;
-    if (w0) goto L231;
+    if (w0) goto L232;
     t0 = l4 + 8ull;
     t0 = I64_LOAD(m, t0);
     t1 = l12 + 8ull;
@@ -122641,23 +121582,23 @@ static u32 f332(Machine *m, u64 l0, u64 l1, u64 l2, u64 l3, u64 l4, u64 l5, u64 
     l11 = t2;
     t1 = t1 + l11;
     w0 = t0 != t1;
-    if (w0) goto L231;
+    if (w0) goto L232;
     t0 = l7 << 4;
     t0 = l11 + t0;
     I64_STORE(m, l6, t0);
-    L231:;
+    L232:;
     t0 = l12 + 24ull;
     l12 = t0;
     t0 = I64_LOAD(m, l12);
     t0 = t0 + 18446744073709551615ull;
     I64_STORE(m, l12, t0);
-    L230:;
+    L231:;
     w0 = l2 == 0;
-    if (w0) goto L232;
+    if (w0) goto L233;
     t0 = l1 + 16ull;
     t0 = I64_LOAD(m, t0);
     w0 = t0 != 1ull;
-    if (w0) goto L233;
+    if (w0) goto L234;
     t0 = l1 + 8ull;
     t0 = I64_LOAD(m, t0);
     l12 = t0;
@@ -122668,31 +121609,31 @@ static u32 f332(Machine *m, u64 l0, u64 l1, u64 l2, u64 l3, u64 l4, u64 l5, u64 
     l7 = t1;
     t0 = t0 + l7;
     w0 = l3 != t0;
-    if (w0) goto L233;
+    if (w0) goto L234;
     t0 = l7 + l2;
     I64_STORE(m, l12, t0);
-    L233:;
+    L234:;
     t0 = l1 + 24ull;
     l1 = t0;
     t0 = I64_LOAD(m, l1);
     t0 = t0 + 18446744073709551615ull;
     I64_STORE(m, l1, t0);
-    L232:;
+    L233:;
     t0 = l4 + 168ull;
     l4 = t0;
     t0 = l0 + 18446744073709551615ull;
     l0 = t0;
     w0 = l0 != 0ull;
-    if (w0) goto L229;
-    w0 = l14 == l15;
+    if (w0) goto L230;
+    w0 = l15 == l16;
     l46 = w0;
-    L221:;
+    L222:;
     w0 = l17 == 0;
     if (w0) goto L49;
     t0 = l18 + 16ull;
     t0 = I64_LOAD(m, t0);
     w0 = t0 != 1ull;
-    if (w0) goto L234;
+    if (w0) goto L235;
     t0 = l18 + 8ull;
     t0 = I64_LOAD(m, t0);
     l4 = t0;
@@ -122702,27 +121643,27 @@ static u32 f332(Machine *m, u64 l0, u64 l1, u64 l2, u64 l3, u64 l4, u64 l5, u64 
     t1 = I64_LOAD(m, l4);
     l1 = t1;
     t0 = t0 + l1;
-    w0 = l51 != t0;
-    if (w0) goto L234;
+    w0 = l20 != t0;
+    if (w0) goto L235;
     t0 = l17 * 168ull;
     t0 = l1 + t0;
     I64_STORE(m, l4, t0);
-    L234:;
+    L235:;
     t0 = l18 + 24ull;
     l4 = t0;
     t0 = I64_LOAD(m, l4);
     t0 = t0 + 18446744073709551615ull;
     I64_STORE(m, l4, t0);
     goto L49;
-    L194:;
+    L197:;
     w0 = l22 == 0;
-    if (w0) goto L235;
+    if (w0) goto L236;
     w0 = l12 == 0;
-    if (w0) goto L235;
+    if (w0) goto L236;
     t0 = l3 + 16ull;
     t0 = I64_LOAD(m, t0);
     w0 = t0 != 1ull;
-    if (w0) goto L236;
+    if (w0) goto L237;
     t0 = l3 + 8ull;
     t0 = I64_LOAD(m, t0);
     l4 = t0;
@@ -122730,70 +121671,65 @@ static u32 f332(Machine *m, u64 l0, u64 l1, u64 l2, u64 l3, u64 l4, u64 l5, u64 
     t1 = l4 + 32ull;
     l4 = t1;
     t1 = I64_LOAD(m, l4);
-    l1 = t1;
-    t0 = t0 + l1;
-    w0 = l50 != t0;
-    if (w0) goto L236;
+    l2 = t1;
+    t0 = t0 + l2;
+    w0 = l19 != t0;
+    if (w0) goto L237;
     t0 = l12 << 4;
-    t0 = l1 + t0;
+    t0 = l2 + t0;
     I64_STORE(m, l4, t0);
-    L236:;
+    L237:;
     t0 = l3 + 24ull;
     l4 = t0;
     t0 = I64_LOAD(m, l4);
     t0 = t0 + 18446744073709551615ull;
     I64_STORE(m, l4, t0);
-    L235:;
-    w0 = l20 == 0;
-    if (w0) goto L237;
-    t0 = l58 + 16ull;
-    t0 = I64_LOAD(m, t0);
+    L236:;
+    if (l46) goto L238;
+    t0 = I64_LOAD(m, l9 + 32u);
     w0 = t0 != 1ull;
-    if (w0) goto L238;
-    t0 = l58 + 8ull;
-    t0 = I64_LOAD(m, t0);
+    if (w0) goto L239;
+    t0 = I64_LOAD(m, l9 + 24u);
     l4 = t0;
     t0 = I64_LOAD(m, l4);
     t1 = l4 + 32ull;
     l4 = t1;
     t1 = I64_LOAD(m, l4);
-    l1 = t1;
-    t0 = t0 + l1;
+    l2 = t1;
+    t0 = t0 + l2;
     w0 = l11 != t0;
-    if (w0) goto L238;
-    t0 = l1 + l20;
-    I64_STORE(m, l4, t0);
-    L238:;
-    t0 = l58 + 24ull;
-    l4 = t0;
-    t0 = I64_LOAD(m, l4);
-    t0 = t0 + 18446744073709551615ull;
-    I64_STORE(m, l4, t0);
-    L237:;
-    I64_STORE(m, l9 + 248u, l49);
-    I64_STORE(m, l9 + 240u, 0ull);
-    I64_STORE(m, l9 + 232u, l17);
-    I64_STORE(m, l9 + 224u, l48);
-    I64_STORE(m, l9 + 216u, l19);
-    I64_STORE(m, l9 + 208u, l47);
-    t0 = l9 + 208ull;
-    f159(m, t0);
-    t0 = l9 + 776ull;
-    f158(m, t0);
-    goto L50;
-    L193:;
-    w0 = l22 != 1u;
     if (w0) goto L239;
-    t0 = I64_LOAD(m, l9 + 592u);
+    t0 = l2 + l1;
+    I64_STORE(m, l4, t0);
+    L239:;
+    t0 = I64_LOAD(m, l9 + 40u);
+    t0 = t0 + 18446744073709551615ull;
+    I64_STORE(m, l9 + 40u, t0);
+    L238:;
+    I64_STORE(m, l9 + 320u, l49);
+    I64_STORE(m, l9 + 312u, 0ull);
+    I64_STORE(m, l9 + 304u, l18);
+    I64_STORE(m, l9 + 296u, l48);
+    I64_STORE(m, l9 + 288u, l17);
+    I64_STORE(m, l9 + 280u, l47);
+    t0 = l9 + 280ull;
+    f155(m, t0);
+    t0 = l9 + 840ull;
+    f154(m, t0);
+    goto L50;
+    L196:;
+    w0 = l22 != 1u;
+    if (w0) goto L240;
+    t0 = I64_LOAD(m, l9 + 696u);
     l1 = t0;
     w0 = l1 == 0;
-    if (w0) goto L239;
-    t0 = I64_LOAD(m, l9 + 600u);
+    if (w0) goto L240;
+    t0 = I64_LOAD(m, l9 + 704u);
     l4 = t0;
     t0 = l4 + 16ull;
     t0 = I64_LOAD(m, t0);
     w0 = t0 != 1ull;
-    if (w0) goto L240;
+    if (w0) goto L241;
     t0 = l4 + 8ull;
     t0 = I64_LOAD(m, t0);
     l2 = t0;
@@ -122803,54 +121739,54 @@ static u32 f332(Machine *m, u64 l0, u64 l1, u64 l2, u64 l3, u64 l4, u64 l5, u64 
     t1 = I64_LOAD(m, l2);
     l0 = t1;
     t0 = t0 + l0;
-    w0 = l50 != t0;
-    if (w0) goto L240;
+    w0 = l19 != t0;
+    if (w0) goto L241;
     t0 = l1 << 4;
     t0 = l0 + t0;
     I64_STORE(m, l2, t0);
-    L240:;
+    L241:;
     t0 = l4 + 24ull;
     l4 = t0;
     t0 = I64_LOAD(m, l4);
     t0 = t0 + 18446744073709551615ull;
     I64_STORE(m, l4, t0);
-    L239:;
-    I64_STORE(m, l9 + 528u, l49);
-    I64_STORE(m, l9 + 520u, 0ull);
-    I64_STORE(m, l9 + 512u, l17);
-    I64_STORE(m, l9 + 504u, l48);
-    I64_STORE(m, l9 + 496u, l19);
-    I64_STORE(m, l9 + 488u, l47);
-    t0 = l9 + 488ull;
-    f159(m, t0);
-    t0 = l9 + 776ull;
-    f158(m, t0);
+    L240:;
+    I64_STORE(m, l9 + 600u, l49);
+    I64_STORE(m, l9 + 592u, 0ull);
+    I64_STORE(m, l9 + 584u, l18);
+    I64_STORE(m, l9 + 576u, l48);
+    I64_STORE(m, l9 + 568u, l17);
+    I64_STORE(m, l9 + 560u, l47);
+    t0 = l9 + 560ull;
+    f155(m, t0);
+    t0 = l9 + 840ull;
+    f154(m, t0);
     L50:;
     l13 = 0u;
-    l15 = 5ull;
+    l16 = 5ull;
     l46 = 0u;
     L49:;
-    t0 = I64_LOAD(m, l9 + 48u);
-    w0 = t0 != 0ull;
-    if (w0) goto L241;
     t0 = I64_LOAD(m, l9 + 40u);
+    w0 = t0 != 0ull;
+    if (w0) goto L242;
+    t0 = I64_LOAD(m, l9 + 32u);
     l0 = t0;
     w0 = l0 == 0;
-    if (w0) goto L241;
+    if (w0) goto L242;
     t0 = l0 + 18446744073709551615ull;
     l7 = t0;
-    t0 = I64_LOAD(m, l9 + 24u);
+    t0 = I64_LOAD(m, l9 + 16u);
     l4 = t0;
     t0 = l4 + 24ull;
     t0 = I64_LOAD(m, t0);
     l2 = t0;
-    t0 = I64_LOAD(m, l9 + 32u);
+    t0 = I64_LOAD(m, l9 + 24u);
     l1 = t0;
     t0 = l0 & 3ull;
     l3 = t0;
     w0 = l3 == 0;
-    if (w0) goto L242;
-    L243:;
+    if (w0) goto L243;
+    L244:;
     l12 = l1;
     t0 = l12 + 24ull;
     t0 = I64_LOAD(m, t0);
@@ -122867,11 +121803,11 @@ static u32 f332(Machine *m, u64 l0, u64 l1, u64 l2, u64 l3, u64 l4, u64 l5, u64 
     t0 = l3 + 18446744073709551615ull;
     l3 = t0;
     w0 = l3 != 0ull;
-    if (w0) goto L243;
-    L242:;
+    if (w0) goto L244;
+    L243:;
     w0 = l7 < 3ull;
-    if (w0) goto L241;
-    L244:;
+    if (w0) goto L242;
+    L245:;
     t0 = l1 + 24ull;
     t0 = I64_LOAD(m, t0);
     l7 = t0;
@@ -122911,36 +121847,36 @@ static u32 f332(Machine *m, u64 l0, u64 l1, u64 l2, u64 l3, u64 l4, u64 l5, u64 
     t0 = l0 + 18446744073709551612ull;
     l0 = t0;
     w0 = l0 != 0ull;
-    if (w0) goto L244;
-    L241:;
-    w0 = I32_LOAD8_U(m, l9 + 72u);
+    if (w0) goto L245;
+    L242:;
+    w0 = I32_LOAD8_U(m, l9 + 64u);
     w0 = w0 != 1u;
-    if (w0) goto L246;
-    t0 = l9 + 80ull;
+    if (w0) goto L247;
+    t0 = l9 + 72ull;
     l4 = t0;
     t0 = I64_LOAD(m, l4 + 8u);
     I64_STORE(m, l5 + 8u, t0);
     t0 = I64_LOAD(m, l4);
     I64_STORE(m, l5, t0);
-    goto L245;
-    L246:;
-    t0 = I64_LOAD(m, l9 + 96u);
+    goto L246;
+    L247:;
+    t0 = I64_LOAD(m, l9 + 88u);
     w0 = t0 == 0;
     w0 = w0 == 0;
     if (w0) goto L13;
-    L245:;
-    if (l13) goto L247;
-    t0 = l15 >> 8;
+    L246:;
+    if (l13) goto L248;
+    t0 = l16 >> 8;
     w0 = (u32)t0;
     l35 = w0;
-    w0 = (u32)l15;
+    w0 = (u32)l16;
     l22 = w0;
     l1 = 0ull;
     l21 = 0u;
     l4 = 0ull;
     goto L18;
-    L247:;
-    I64_STORE(m, l8, l15);
+    L248:;
+    I64_STORE(m, l8, l16);
     l13 = 92u;
     w0 = l46 & 1u;
     w0 = w0 == 0;
@@ -123011,23 +121947,23 @@ static u32 f332(Machine *m, u64 l0, u64 l1, u64 l2, u64 l3, u64 l4, u64 l5, u64 
     w0 = (u32)t0;
     switch (w0) {
     case 0: goto L1;
-    case 1: goto L251;
-    case 2: goto L250;
-    case 3: goto L249;
-    case 4: goto L248;
+    case 1: goto L252;
+    case 2: goto L251;
+    case 3: goto L250;
+    case 4: goto L249;
     default: goto L1;
     }
-    L251:;
+    L252:;
     w0 = l36 + 46u;
     l13 = w0;
     goto L1;
-    L250:;
+    L251:;
     l13 = 53u;
     goto L1;
-    L249:;
+    L250:;
     l13 = 54u;
     goto L1;
-    L248:;
+    L249:;
     l13 = 91u;
     goto L1;
     L9:;
@@ -123037,31 +121973,31 @@ static u32 f332(Machine *m, u64 l0, u64 l1, u64 l2, u64 l3, u64 l4, u64 l5, u64 
     w0 = (u32)t0;
     switch (w0) {
     case 0: goto L5;
-    case 1: goto L256;
+    case 1: goto L257;
     case 2: goto L1;
-    case 3: goto L255;
-    case 4: goto L254;
-    case 5: goto L253;
+    case 3: goto L256;
+    case 4: goto L255;
+    case 5: goto L254;
     case 6: goto L4;
-    case 7: goto L252;
+    case 7: goto L253;
     default: goto L5;
     }
-    L256:;
+    L257:;
     l13 = 42u;
     goto L1;
-    L255:;
+    L256:;
     l13 = 43u;
     goto L1;
-    L254:;
+    L255:;
     w0 = l36 & 255u;
     w0 = w0 ? 45u : 44u;
     l13 = w0;
     goto L1;
-    L253:;
+    L254:;
     w0 = l36 + 46u;
     l13 = w0;
     goto L1;
-    L252:;
+    L253:;
     l13 = 91u;
     goto L1;
     L8:;
@@ -123138,14 +122074,14 @@ static u32 of_bech32_near_edits(Machine *m, u32 l0, u64 l1, u64 l2, u64 l3, u64 
     TRAP(m);
     return 0;
     L0:;
-    w0 = f334(m, l0, l1, l2, l3, l4, l5, l6, l7, l8, l9, l10);
+    w0 = f328(m, l0, l1, l2, l3, l4, l5, l6, l7, l8, l9, l10);
     l0 = w0;
     LEAVE(m);
     return l0;
 }
 
 /* rattle::export bech32_near_edits */
-static u32 f334(Machine *m, u32 l0, u64 l1, u64 l2, u64 l3, u64 l4, u64 l5, u64 l6, u64 l7, u64 l8, u64 l9, u64 l10) {
+static u32 f328(Machine *m, u32 l0, u64 l1, u64 l2, u64 l3, u64 l4, u64 l5, u64 l6, u64 l7, u64 l8, u64 l9, u64 l10) {
     u32 l12 = 0, l13 = 0, l14 = 0, l18 = 0, l26 = 0, l27 = 0, l28 = 0, l29 = 0, l31 = 0, l32 = 0, l33 = 0, l34 = 0, w0, w1, w2;
     u64 l11 = 0, l15 = 0, l16 = 0, l17 = 0, l19 = 0, l20 = 0, l21 = 0, l22 = 0, l23 = 0, l24 = 0, l25 = 0, l30 = 0, t0, t1, t2;
     FRAME(m, 480u);
@@ -123699,7 +122635,7 @@ static u32 f334(Machine *m, u32 l0, u64 l1, u64 l2, u64 l3, u64 l4, u64 l5, u64 
     w0 = t0 != l19;
     if (w0) goto L54;
     t0 = l11 + 288ull;
-    w0 = f160(m, t0);
+    w0 = f156(m, t0);
     w0 = w0 == 0;
     if (w0) goto L47;
     t0 = I64_LOAD(m, l11 + 288u);
@@ -123866,7 +122802,7 @@ static u32 f334(Machine *m, u32 l0, u64 l1, u64 l2, u64 l3, u64 l4, u64 l5, u64 
     w0 = t0 != l19;
     if (w0) goto L60;
     t0 = l11 + 288ull;
-    w0 = f160(m, t0);
+    w0 = f156(m, t0);
     w0 = w0 == 0;
     if (w0) goto L42;
     t0 = I64_LOAD(m, l11 + 296u);
@@ -123925,7 +122861,7 @@ static u32 f334(Machine *m, u32 l0, u64 l1, u64 l2, u64 l3, u64 l4, u64 l5, u64 
     w0 = t0 != l19;
     if (w0) goto L63;
     t0 = l11 + 288ull;
-    w0 = f160(m, t0);
+    w0 = f156(m, t0);
     w0 = w0 == 0;
     if (w0) goto L42;
     t0 = I64_LOAD(m, l11 + 296u);
@@ -124204,7 +123140,7 @@ static u32 f334(Machine *m, u32 l0, u64 l1, u64 l2, u64 l3, u64 l4, u64 l5, u64 
     w0 = t0 != l17;
     if (w0) goto L72;
     t0 = l11 + 288ull;
-    w0 = f160(m, t0);
+    w0 = f156(m, t0);
     w0 = w0 == 0;
     if (w0) goto L41;
     t0 = I64_LOAD(m, l11 + 296u);
@@ -124261,7 +123197,7 @@ static u32 f334(Machine *m, u32 l0, u64 l1, u64 l2, u64 l3, u64 l4, u64 l5, u64 
     w0 = t0 != l17;
     if (w0) goto L75;
     t0 = l11 + 288ull;
-    w0 = f160(m, t0);
+    w0 = f156(m, t0);
     w0 = w0 == 0;
     if (w0) goto L41;
     t0 = I64_LOAD(m, l11 + 296u);
@@ -124431,7 +123367,7 @@ static u32 f334(Machine *m, u32 l0, u64 l1, u64 l2, u64 l3, u64 l4, u64 l5, u64 
     t0 = l11 + 248ull;
     t1 = l11 + 8ull;
     t2 = l11 + 88ull;
-    f163(m, t0, t1, l15, l2, t2);
+    f159(m, t0, t1, l15, l2, t2);
     goto L17;
     L42:;
     t0 = I64_LOAD(m, l11 + 304u);
@@ -124659,7 +123595,7 @@ static u32 f334(Machine *m, u32 l0, u64 l1, u64 l2, u64 l3, u64 l4, u64 l5, u64 
     w0 = t0 != l19;
     if (w0) goto L93;
     t0 = l11 + 288ull;
-    w0 = f160(m, t0);
+    w0 = f156(m, t0);
     w0 = w0 == 0;
     if (w0) goto L86;
     t0 = I64_LOAD(m, l11 + 288u);
@@ -124826,7 +123762,7 @@ static u32 f334(Machine *m, u32 l0, u64 l1, u64 l2, u64 l3, u64 l4, u64 l5, u64 
     w0 = t0 != l19;
     if (w0) goto L99;
     t0 = l11 + 288ull;
-    w0 = f160(m, t0);
+    w0 = f156(m, t0);
     w0 = w0 == 0;
     if (w0) goto L81;
     t0 = I64_LOAD(m, l11 + 296u);
@@ -124885,7 +123821,7 @@ static u32 f334(Machine *m, u32 l0, u64 l1, u64 l2, u64 l3, u64 l4, u64 l5, u64 
     w0 = t0 != l19;
     if (w0) goto L102;
     t0 = l11 + 288ull;
-    w0 = f160(m, t0);
+    w0 = f156(m, t0);
     w0 = w0 == 0;
     if (w0) goto L81;
     t0 = I64_LOAD(m, l11 + 296u);
@@ -125164,7 +124100,7 @@ static u32 f334(Machine *m, u32 l0, u64 l1, u64 l2, u64 l3, u64 l4, u64 l5, u64 
     w0 = t0 != l17;
     if (w0) goto L111;
     t0 = l11 + 288ull;
-    w0 = f160(m, t0);
+    w0 = f156(m, t0);
     w0 = w0 == 0;
     if (w0) goto L80;
     t0 = I64_LOAD(m, l11 + 296u);
@@ -125221,7 +124157,7 @@ static u32 f334(Machine *m, u32 l0, u64 l1, u64 l2, u64 l3, u64 l4, u64 l5, u64 
     w0 = t0 != l17;
     if (w0) goto L114;
     t0 = l11 + 288ull;
-    w0 = f160(m, t0);
+    w0 = f156(m, t0);
     w0 = w0 == 0;
     if (w0) goto L80;
     t0 = I64_LOAD(m, l11 + 296u);
@@ -125391,7 +124327,7 @@ static u32 f334(Machine *m, u32 l0, u64 l1, u64 l2, u64 l3, u64 l4, u64 l5, u64 
     t0 = l11 + 248ull;
     t1 = l11 + 8ull;
     t2 = l11 + 88ull;
-    f163(m, t0, t1, l15, l2, t2);
+    f159(m, t0, t1, l15, l2, t2);
     goto L17;
     L81:;
     t0 = I64_LOAD(m, l11 + 304u);
@@ -126041,14 +124977,14 @@ static u32 of_bech32_nearest(Machine *m, u32 l0, u64 l1, u64 l2, u64 l3, u64 l4,
     TRAP(m);
     return 0;
     L0:;
-    w0 = f336(m, l0, l1, l2, l3, l4, l5, l6, l7, l8, l9);
+    w0 = f330(m, l0, l1, l2, l3, l4, l5, l6, l7, l8, l9);
     l0 = w0;
     LEAVE(m);
     return l0;
 }
 
 /* rattle::export bech32_nearest */
-static u32 f336(Machine *m, u32 l0, u64 l1, u64 l2, u64 l3, u64 l4, u64 l5, u64 l6, u64 l7, u64 l8, u64 l9) {
+static u32 f330(Machine *m, u32 l0, u64 l1, u64 l2, u64 l3, u64 l4, u64 l5, u64 l6, u64 l7, u64 l8, u64 l9) {
     u32 l12 = 0, l13 = 0, l14 = 0, l17 = 0, l25 = 0, w0, w1, w2;
     u64 l10 = 0, l11 = 0, l15 = 0, l16 = 0, l18 = 0, l19 = 0, l20 = 0, l21 = 0, l22 = 0, l23 = 0, l24 = 0, t0, t1, t2;
     FRAME(m, 240u);
@@ -126545,7 +125481,7 @@ static u32 f336(Machine *m, u32 l0, u64 l1, u64 l2, u64 l3, u64 l4, u64 l5, u64 
     I64_STORE(m, l10, t0);
     t0 = l10 + 48ull;
     t1 = l10 + 120ull;
-    f169(m, t0, l10, l0, t1, l3, l4, l5);
+    f165(m, t0, l10, l0, t1, l3, l4, l5);
     w0 = I32_LOAD8_U(m, l10 + 48u);
     l17 = w0;
     w0 = l17 == 0;
@@ -127079,14 +126015,14 @@ static u32 of_bech32_suggest(Machine *m, u64 l0, u64 l1, u64 l2, u64 l3, u64 l4,
     TRAP(m);
     return 0;
     L0:;
-    w0 = f338(m, l0, l1, l2, l3, l4, l5, l6, l7, l8, l9, l10, l11);
+    w0 = f332(m, l0, l1, l2, l3, l4, l5, l6, l7, l8, l9, l10, l11);
     l12 = w0;
     LEAVE(m);
     return l12;
 }
 
 /* rattle::export bech32_suggest */
-static u32 f338(Machine *m, u64 l0, u64 l1, u64 l2, u64 l3, u64 l4, u64 l5, u64 l6, u64 l7, u64 l8, u64 l9, u64 l10, u64 l11) {
+static u32 f332(Machine *m, u64 l0, u64 l1, u64 l2, u64 l3, u64 l4, u64 l5, u64 l6, u64 l7, u64 l8, u64 l9, u64 l10, u64 l11) {
     u32 l14 = 0, l15 = 0, l16 = 0, l17 = 0, l18 = 0, l19 = 0, l28 = 0, l34 = 0, l36 = 0, l37 = 0, l38 = 0, l39 = 0, l40 = 0, l41 = 0, l42 = 0, l43 = 0;
     u32 w0, w1, w2;
     u64 l12 = 0, l13 = 0, l20 = 0, l21 = 0, l22 = 0, l23 = 0, l24 = 0, l25 = 0, l26 = 0, l27 = 0, l29 = 0, l30 = 0, l31 = 0, l32 = 0, l33 = 0, l35 = 0;
@@ -127853,7 +126789,7 @@ static u32 f338(Machine *m, u64 l0, u64 l1, u64 l2, u64 l3, u64 l4, u64 l5, u64 
     w0 = t0 != l0;
     if (w0) goto L66;
     t0 = l12 + 320ull;
-    w0 = f229(m, t0);
+    w0 = f224(m, t0);
     w0 = w0 == 0;
     if (w0) goto L65;
     t0 = I64_LOAD(m, l12 + 320u);
@@ -127939,7 +126875,7 @@ static u32 f338(Machine *m, u64 l0, u64 l1, u64 l2, u64 l3, u64 l4, u64 l5, u64 
     goto L68;
     L69:;
     t0 = l12 + 8ull;
-    f162(m, t0, l32, l21, 1ull);
+    f158(m, t0, l32, l21, 1ull);
     t0 = I64_LOAD(m, l12 + 16u);
     l1 = t0;
     w0 = I32_LOAD8_U(m, l12 + 8u);
@@ -128079,14 +127015,14 @@ static u32 f338(Machine *m, u64 l0, u64 l1, u64 l2, u64 l3, u64 l4, u64 l5, u64 
     t1 = l12 + 424ull;
     t2 = l12 + 488ull;
     t3 = l12 + 536ull;
-    w0 = f230(m, t0, t1, 0u, t2, t3);
+    w0 = f225(m, t0, t1, 0u, t2, t3);
     w0 = w0 & 255u;
     if (w0) goto L18;
     t0 = l12 + 480ull;
     t1 = l12 + 424ull;
     t2 = l12 + 488ull;
     t3 = l12 + 536ull;
-    w0 = f230(m, t0, t1, 1u, t2, t3);
+    w0 = f225(m, t0, t1, 1u, t2, t3);
     w0 = w0 & 255u;
     if (w0) goto L18;
     l20 = 0ull;
@@ -128255,7 +127191,7 @@ static u32 f338(Machine *m, u64 l0, u64 l1, u64 l2, u64 l3, u64 l4, u64 l5, u64 
     w0 = t0 != l20;
     if (w0) goto L85;
     t0 = l12 + 768ull;
-    w0 = f284(m, t0);
+    w0 = f278(m, t0);
     w0 = w0 == 0;
     if (w0) goto L19;
     t0 = I64_LOAD(m, l12 + 768u);
@@ -128409,7 +127345,7 @@ static u32 f338(Machine *m, u64 l0, u64 l1, u64 l2, u64 l3, u64 l4, u64 l5, u64 
     w0 = t0 != l20;
     if (w0) goto L94;
     t0 = l12 + 768ull;
-    w0 = f284(m, t0);
+    w0 = f278(m, t0);
     w0 = w0 == 0;
     if (w0) goto L89;
     t0 = I64_LOAD(m, l12 + 776u);
@@ -128468,7 +127404,7 @@ static u32 f338(Machine *m, u64 l0, u64 l1, u64 l2, u64 l3, u64 l4, u64 l5, u64 
     w0 = t0 != l20;
     if (w0) goto L97;
     t0 = l12 + 768ull;
-    w0 = f284(m, t0);
+    w0 = f278(m, t0);
     w0 = w0 == 0;
     if (w0) goto L89;
     t0 = I64_LOAD(m, l12 + 776u);
@@ -128707,7 +127643,7 @@ static u32 f338(Machine *m, u64 l0, u64 l1, u64 l2, u64 l3, u64 l4, u64 l5, u64 
     w0 = t0 != l3;
     if (w0) goto L107;
     t0 = l12 + 768ull;
-    w0 = f284(m, t0);
+    w0 = f278(m, t0);
     w0 = w0 == 0;
     if (w0) goto L88;
     t0 = I64_LOAD(m, l12 + 776u);
@@ -128764,7 +127700,7 @@ static u32 f338(Machine *m, u64 l0, u64 l1, u64 l2, u64 l3, u64 l4, u64 l5, u64 
     w0 = t0 != l3;
     if (w0) goto L110;
     t0 = l12 + 768ull;
-    w0 = f284(m, t0);
+    w0 = f278(m, t0);
     w0 = w0 == 0;
     if (w0) goto L88;
     t0 = I64_LOAD(m, l12 + 776u);
@@ -128934,7 +127870,7 @@ static u32 f338(Machine *m, u64 l0, u64 l1, u64 l2, u64 l3, u64 l4, u64 l5, u64 
     t0 = l12 + 728ull;
     t1 = l12 + 480ull;
     t2 = l12 + 568ull;
-    f285(m, t0, t1, l33, l23, t2);
+    f279(m, t0, t1, l33, l23, t2);
     w0 = I32_LOAD8_U(m, l12 + 728u);
     if (w0) goto L18;
     t0 = I64_LOAD(m, l12 + 760u);
@@ -129031,7 +127967,7 @@ static u32 f338(Machine *m, u64 l0, u64 l1, u64 l2, u64 l3, u64 l4, u64 l5, u64 
     t1 = I64_LOAD(m, t1);
     t2 = I64_LOAD(m, l2);
     t3 = l12 + 536ull;
-    w0 = f232(m, l20, t0, t1, t2, t3);
+    w0 = f227(m, l20, t0, t1, t2, t3);
     w0 = w0 & 255u;
     l15 = w0;
     if (l15) goto L114;
@@ -129273,7 +128209,7 @@ static u32 f338(Machine *m, u64 l0, u64 l1, u64 l2, u64 l3, u64 l4, u64 l5, u64 
     w0 = t0 != l0;
     if (w0) goto L127;
     t0 = l12 + 768ull;
-    w0 = f284(m, t0);
+    w0 = f278(m, t0);
     w0 = w0 == 0;
     if (w0) goto L20;
     t0 = I64_LOAD(m, l12 + 768u);
@@ -129427,7 +128363,7 @@ static u32 f338(Machine *m, u64 l0, u64 l1, u64 l2, u64 l3, u64 l4, u64 l5, u64 
     w0 = t0 != l0;
     if (w0) goto L136;
     t0 = l12 + 768ull;
-    w0 = f284(m, t0);
+    w0 = f278(m, t0);
     w0 = w0 == 0;
     if (w0) goto L131;
     t0 = I64_LOAD(m, l12 + 776u);
@@ -129486,7 +128422,7 @@ static u32 f338(Machine *m, u64 l0, u64 l1, u64 l2, u64 l3, u64 l4, u64 l5, u64 
     w0 = t0 != l0;
     if (w0) goto L139;
     t0 = l12 + 768ull;
-    w0 = f284(m, t0);
+    w0 = f278(m, t0);
     w0 = w0 == 0;
     if (w0) goto L131;
     t0 = I64_LOAD(m, l12 + 776u);
@@ -129720,7 +128656,7 @@ static u32 f338(Machine *m, u64 l0, u64 l1, u64 l2, u64 l3, u64 l4, u64 l5, u64 
     w0 = t0 != l2;
     if (w0) goto L149;
     t0 = l12 + 768ull;
-    w0 = f284(m, t0);
+    w0 = f278(m, t0);
     w0 = w0 == 0;
     if (w0) goto L130;
     t0 = I64_LOAD(m, l12 + 776u);
@@ -129777,7 +128713,7 @@ static u32 f338(Machine *m, u64 l0, u64 l1, u64 l2, u64 l3, u64 l4, u64 l5, u64 
     w0 = t0 != l2;
     if (w0) goto L152;
     t0 = l12 + 768ull;
-    w0 = f284(m, t0);
+    w0 = f278(m, t0);
     w0 = w0 == 0;
     if (w0) goto L130;
     t0 = I64_LOAD(m, l12 + 776u);
@@ -129948,7 +128884,7 @@ static u32 f338(Machine *m, u64 l0, u64 l1, u64 l2, u64 l3, u64 l4, u64 l5, u64 
     t1 = l12 + 480ull;
     t2 = I64_LOAD(m, l12 + 424u);
     t3 = l12 + 568ull;
-    f285(m, t0, t1, t2, l23, t3);
+    f279(m, t0, t1, t2, l23, t3);
     w0 = I32_LOAD8_U(m, l12 + 728u);
     if (w0) goto L18;
     t0 = I64_LOAD(m, l12 + 760u);
@@ -130045,7 +128981,7 @@ static u32 f338(Machine *m, u64 l0, u64 l1, u64 l2, u64 l3, u64 l4, u64 l5, u64 
     t1 = I64_LOAD(m, t1);
     t2 = I64_LOAD(m, l13);
     t3 = l12 + 536ull;
-    w0 = f232(m, l0, t0, t1, t2, t3);
+    w0 = f227(m, l0, t0, t1, t2, t3);
     w0 = w0 & 255u;
     l15 = w0;
     if (l15) goto L156;
@@ -130992,14 +129928,14 @@ static u32 of_bech32_segwit_decode_many(Machine *m, u64 l0, u64 l1, u64 l2, u64 
     TRAP(m);
     return 0;
     L0:;
-    w0 = f340(m, l0, l1, l2, l3, l4, l5, l6, l7, l8, l9, l10, l11, l12, l13, l14);
+    w0 = f334(m, l0, l1, l2, l3, l4, l5, l6, l7, l8, l9, l10, l11, l12, l13, l14);
     l15 = w0;
     LEAVE(m);
     return l15;
 }
 
 /* rattle::export bech32_segwit_decode_many */
-static u32 f340(Machine *m, u64 l0, u64 l1, u64 l2, u64 l3, u64 l4, u64 l5, u64 l6, u64 l7, u64 l8, u64 l9, u64 l10, u64 l11, u64 l12, u64 l13, u64 l14) {
+static u32 f334(Machine *m, u64 l0, u64 l1, u64 l2, u64 l3, u64 l4, u64 l5, u64 l6, u64 l7, u64 l8, u64 l9, u64 l10, u64 l11, u64 l12, u64 l13, u64 l14) {
     u32 l17 = 0, l18 = 0, l28 = 0, l31 = 0, l32 = 0, l33 = 0, l49 = 0, l50 = 0, l51 = 0, l52 = 0, w0, w1, w2;
     u64 l15 = 0, l16 = 0, l19 = 0, l20 = 0, l21 = 0, l22 = 0, l23 = 0, l24 = 0, l25 = 0, l26 = 0, l27 = 0, l29 = 0, l30 = 0, l34 = 0, l35 = 0, l36 = 0;
     u64 l37 = 0, l38 = 0, l39 = 0, l40 = 0, l41 = 0, l42 = 0, l43 = 0, l44 = 0, l45 = 0, l46 = 0, l47 = 0, l48 = 0, t0, t1, t2;
@@ -132357,14 +131293,14 @@ static u32 of_bech32_segwit_encode_many(Machine *m, u64 l0, u64 l1, u64 l2, u64 
     TRAP(m);
     return 0;
     L0:;
-    w0 = f342(m, l0, l1, l2, l3, l4, l5, l6, l7, l8, l9, l10, l11, l12);
+    w0 = f336(m, l0, l1, l2, l3, l4, l5, l6, l7, l8, l9, l10, l11, l12);
     l13 = w0;
     LEAVE(m);
     return l13;
 }
 
 /* rattle::export bech32_segwit_encode_many */
-static u32 f342(Machine *m, u64 l0, u64 l1, u64 l2, u64 l3, u64 l4, u64 l5, u64 l6, u64 l7, u64 l8, u64 l9, u64 l10, u64 l11, u64 l12) {
+static u32 f336(Machine *m, u64 l0, u64 l1, u64 l2, u64 l3, u64 l4, u64 l5, u64 l6, u64 l7, u64 l8, u64 l9, u64 l10, u64 l11, u64 l12) {
     u32 l15 = 0, l16 = 0, l33 = 0, l35 = 0, l36 = 0, w0, w1;
     u64 l13 = 0, l14 = 0, l17 = 0, l18 = 0, l19 = 0, l20 = 0, l21 = 0, l22 = 0, l23 = 0, l24 = 0, l25 = 0, l26 = 0, l27 = 0, l28 = 0, l29 = 0, l30 = 0;
     u64 l31 = 0, l32 = 0, l34 = 0, t0, t1, t2;
@@ -133200,10 +132136,10 @@ uint32_t bech32_correct(uint32_t checksum, const uint8_t *text, size_t text_leng
     u64 given_count = put_erasures(given, MOST_ERASURES, erasures, erasures_length);
     u64 most = locations_room < BECH32_MAX_LISTED ? locations_room : BECH32_MAX_LISTED;
     u64 values_size = SOME(values_room), mended_size = SOME(mended_room);
-    u64 text_at = lend(&m, text, text_length), given_at = lend(&m, given, sizeof given_words);
+    u64 text_at = lend(&m, text, text_length), interpolate_if_consistent = lend(&m, given, sizeof given_words);
     u64 values_at = lend_room(&m, values, values_size), mended_at = lend_room(&m, mended, mended_size);
     u64 at = lend_room(&m, numbers, sizeof number_words);
-    uint32_t number = of_bech32_correct(&m, checksum, text_at, text_length, given_at, given_count, at + 16, most,
+    uint32_t number = of_bech32_correct(&m, checksum, text_at, text_length, interpolate_if_consistent, given_count, at + 16, most,
                                         values_at, values_size, at, mended_at, mended_size, at + 8);
     if (number == BECH32_OK) {
         *count = (size_t)get_64(numbers);
@@ -133226,11 +132162,11 @@ uint32_t bech32_nearest(uint32_t checksum, const uint8_t *text, size_t text_leng
     MACHINE(bech32_nearest);
     u64 given_count = put_erasures(given, MOST_ERASURES, erasures, erasures_length);
     u64 texts_size = SOME(texts_room), memory_size = SOME(memory->size);
-    u64 text_at = lend(&m, text, text_length), given_at = lend(&m, given, sizeof given_words);
+    u64 text_at = lend(&m, text, text_length), interpolate_if_consistent = lend(&m, given, sizeof given_words);
     u64 texts_at = lend_room(&m, texts, texts_size), at = lend_room(&m, numbers, sizeof number_words);
     put_64(numbers + 8, lend_room(&m, memory->start, memory_size));
     put_64(numbers + 16, memory_size);
-    uint32_t number = of_bech32_nearest(&m, checksum, text_at, text_length, given_at, given_count, errors, at + 8,
+    uint32_t number = of_bech32_nearest(&m, checksum, text_at, text_length, interpolate_if_consistent, given_count, errors, at + 8,
                                         texts_at, texts_size, at);
     if (number == BECH32_OK || number == BECH32_NO_ROOM) {
         *count = (size_t)get_64(numbers);
@@ -133294,11 +132230,11 @@ uint32_t bech32_liquid_nearest(const uint8_t *text, size_t text_length, const si
     MACHINE(bech32_liquid_nearest);
     u64 given_count = put_erasures(given, MOST_LIQUID_ERASURES, erasures, erasures_length);
     u64 texts_size = SOME(texts_room), memory_size = SOME(memory->size);
-    u64 text_at = lend(&m, text, text_length), given_at = lend(&m, given, sizeof given_words);
+    u64 text_at = lend(&m, text, text_length), interpolate_if_consistent = lend(&m, given, sizeof given_words);
     u64 texts_at = lend_room(&m, texts, texts_size), at = lend_room(&m, numbers, sizeof number_words);
     put_64(numbers + 8, lend_room(&m, memory->start, memory_size));
     put_64(numbers + 16, memory_size);
-    uint32_t number = of_bech32_liquid_nearest(&m, text_at, text_length, given_at, given_count, errors, at + 8,
+    uint32_t number = of_bech32_liquid_nearest(&m, text_at, text_length, interpolate_if_consistent, given_count, errors, at + 8,
                                                texts_at, texts_size, at);
     if (number == BECH32_OK || number == BECH32_NO_ROOM) {
         *count = (size_t)get_64(numbers);

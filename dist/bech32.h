@@ -1,3 +1,5 @@
+/* Made by tools/make from include/bech32.h.in and docs/refusals.tsv; do not edit. */
+
 /*
  * Bech32 (BIP-173) and Bech32m (BIP-350): texts and segwit addresses, written, read and mended; Blech32, the
  * confidential addresses of Liquid; and the checksums of output descriptors (BIP-380).
@@ -143,7 +145,7 @@ extern "C" {
 #define BECH32_BAD_ELEMENT 67u          /* an element is above 31 */
 #define BECH32_UNSUPPORTED_VERSION 70u  /* a confidential address of another witness version than 0 is not
                                            supported */
-#define BECH32_NO_BLINDING_KEY 71u      /* a confidential address has less than 33 bytes behind its
+#define BECH32_NO_BLINDING_KEY 79u      /* a confidential address has less than 33 bytes behind its
                                            version */
 #define BECH32_NOT_IN_DESCRIPTOR 80u    /* a character may not stand in a descriptor, or not in its
                                            checksum */
@@ -462,7 +464,7 @@ uint32_t bech32_liquid_encode(const uint8_t *hrp, size_t hrp_length, uint32_t ve
  * human-readable part is accepted: compare it with that of your network (`lq`). That the key is a point of
  * the curve is not tested.
  *
- * Refusals, the first that applies: 2; 21, 22, 23, 11 to 15; 42, 43, 70; 31, 32, 33; 42, 44, 45; 71; 46
+ * Refusals, the first that applies: 2; 21, 22, 23, 11 to 15; 42, 43, 70; 31, 32, 33; 42, 44, 45; 79; 46
  * to 48; 92.
  */
 uint32_t bech32_liquid_decode(const uint8_t *text, size_t text_length, uint8_t *hrp, size_t hrp_room,

@@ -1,6 +1,6 @@
 /*
  * bech32.h in C99: the functions of the proved library, made of its object for WebAssembly (sha256
- * e366861abcb86eee259db44469be9b6e850c68aef037570421412bb4022bd797) by portable/translate. Do not edit.
+ * f848e19343681b3ae16b4c57c97ef9d7889f6c3c82062512e9b9ec6f376a2f71) by translator/translate. Do not edit.
  *
  *     cc -std=c99 -O2 -c bech32_small.c
  *
@@ -305,7 +305,7 @@ OWN void put_64(u8 *p, u64 x) {
     p[7] = (u8)(x >> 56 & 255);
 }
 
-/* ---- the instructions that C has no sign for, by the names that portable/translate gives them. A number is held without
+/* ---- the instructions that C has no sign for, by the names that translator/translate gives them. A number is held without
  * a sign; where an instruction reads it with one, that is worked out on numbers without. */
 
 /* In the order of numbers with a sign. */
@@ -4716,7 +4716,7 @@ static u32 f38(Machine *m, u32 l0, u64 l1, u64 l2, u64 l3) {
     case 67: goto L4;
     case 68: goto L4;
     case 69: goto L22;
-    case 70: goto L21;
+    case 70: goto L4;
     case 71: goto L4;
     case 72: goto L4;
     case 73: goto L4;
@@ -4724,7 +4724,7 @@ static u32 f38(Machine *m, u32 l0, u64 l1, u64 l2, u64 l3) {
     case 75: goto L4;
     case 76: goto L4;
     case 77: goto L4;
-    case 78: goto L4;
+    case 78: goto L21;
     case 79: goto L20;
     case 80: goto L4;
     case 81: goto L4;
@@ -5493,10 +5493,10 @@ uint32_t bech32_correct(uint32_t checksum, const uint8_t *text, size_t text_leng
     u64 given_count = put_erasures(given, MOST_ERASURES, erasures, erasures_length);
     u64 most = locations_room < BECH32_MAX_LISTED ? locations_room : BECH32_MAX_LISTED;
     u64 values_size = SOME(values_room), mended_size = SOME(mended_room);
-    u64 text_at = lend(&m, text, text_length), given_at = lend(&m, given, sizeof given_words);
+    u64 text_at = lend(&m, text, text_length), interpolate_if_consistent = lend(&m, given, sizeof given_words);
     u64 values_at = lend_room(&m, values, values_size), mended_at = lend_room(&m, mended, mended_size);
     u64 at = lend_room(&m, numbers, sizeof number_words);
-    uint32_t number = of_bech32_correct(&m, checksum, text_at, text_length, given_at, given_count, at + 16, most,
+    uint32_t number = of_bech32_correct(&m, checksum, text_at, text_length, interpolate_if_consistent, given_count, at + 16, most,
                                         values_at, values_size, at, mended_at, mended_size, at + 8);
     if (number == BECH32_OK) {
         *count = (size_t)get_64(numbers);

@@ -1,6 +1,6 @@
 /*
  * codex32.h in C99: the functions of the proved library, made of its object for WebAssembly (sha256
- * 17455bea1de27c97a4a381ee82970195e70b7bb5fcaa30c6f8d0c0a8e6bda3ff) by portable/translate. Do not edit.
+ * 2a2e837d19ee4d61a5b841d613628b950e6644ec755a424c1cd5d5ebab3ff3e7) by translator/translate. Do not edit.
  *
  *     cc -std=c99 -O2 -c codex32.c
  *
@@ -179,19 +179,19 @@ ALIGNED(16) static const union {
     32, 105, 115, 32, 110, 111, 32, 110, 101, 97, 114, 101, 115, 116, 32, 116, 101, 120, 116, 116, 104, 101, 114, 101,
     32, 97, 114, 101, 32, 110, 101, 105, 116, 104, 101, 114, 32, 49, 54, 32, 116, 111, 32, 52, 52, 32, 98, 121,
     116, 101, 115, 32, 110, 111, 114, 32, 54, 51, 32, 111, 114, 32, 54, 52, 116, 104, 101, 114, 101, 32, 97, 114,
-    101, 32, 102, 101, 119, 101, 114, 32, 115, 104, 97, 114, 101, 115, 32, 116, 104, 97, 110, 32, 116, 104, 101, 32,
-    116, 104, 114, 101, 115, 104, 111, 108, 100, 97, 32, 115, 104, 97, 114, 101, 32, 104, 97, 115, 32, 97, 110, 111,
-    116, 104, 101, 114, 32, 116, 104, 114, 101, 115, 104, 111, 108, 100, 44, 32, 105, 100, 101, 110, 116, 105, 102, 105,
-    101, 114, 32, 111, 114, 32, 108, 101, 110, 103, 116, 104, 32, 116, 104, 97, 110, 32, 116, 104, 101, 32, 102, 105,
-    114, 115, 116, 116, 119, 111, 32, 115, 104, 97, 114, 101, 115, 32, 104, 97, 118, 101, 32, 111, 110, 101, 32, 105,
-    110, 100, 101, 120, 116, 104, 101, 32, 115, 104, 97, 114, 101, 115, 32, 99, 111, 110, 116, 114, 97, 100, 105, 99,
-    116, 32, 101, 97, 99, 104, 32, 111, 116, 104, 101, 114, 116, 104, 101, 114, 101, 32, 97, 114, 101, 32, 102, 101,
-    119, 101, 114, 32, 115, 104, 97, 114, 101, 115, 32, 116, 104, 97, 110, 32, 116, 104, 101, 32, 116, 104, 114, 101,
-    115, 104, 111, 108, 100, 44, 32, 111, 114, 32, 109, 111, 114, 101, 32, 116, 104, 97, 110, 32, 51, 49, 116, 104,
-    101, 114, 101, 32, 97, 114, 101, 32, 110, 111, 116, 32, 97, 115, 32, 109, 97, 110, 121, 32, 114, 97, 110, 100,
-    111, 109, 32, 98, 121, 116, 101, 115, 32, 97, 115, 32, 99, 104, 97, 114, 97, 99, 116, 101, 114, 115, 32, 97,
-    114, 101, 32, 100, 114, 97, 119, 110, 116, 104, 101, 32, 114, 97, 110, 100, 111, 109, 32, 98, 121, 116, 101, 115,
-    32, 97, 114, 101, 32, 97, 108, 108, 32, 101, 113, 117, 97, 108, 116, 104, 101, 32, 104, 117, 109, 97, 110, 45,
+    101, 32, 110, 111, 116, 32, 97, 115, 32, 109, 97, 110, 121, 32, 114, 97, 110, 100, 111, 109, 32, 98, 121, 116,
+    101, 115, 32, 97, 115, 32, 99, 104, 97, 114, 97, 99, 116, 101, 114, 115, 32, 97, 114, 101, 32, 100, 114, 97,
+    119, 110, 116, 104, 101, 32, 114, 97, 110, 100, 111, 109, 32, 98, 121, 116, 101, 115, 32, 97, 114, 101, 32, 97,
+    108, 108, 32, 101, 113, 117, 97, 108, 116, 104, 101, 114, 101, 32, 97, 114, 101, 32, 102, 101, 119, 101, 114, 32,
+    115, 104, 97, 114, 101, 115, 32, 116, 104, 97, 110, 32, 116, 104, 101, 32, 116, 104, 114, 101, 115, 104, 111, 108,
+    100, 97, 32, 115, 104, 97, 114, 101, 32, 104, 97, 115, 32, 97, 110, 111, 116, 104, 101, 114, 32, 116, 104, 114,
+    101, 115, 104, 111, 108, 100, 44, 32, 105, 100, 101, 110, 116, 105, 102, 105, 101, 114, 32, 111, 114, 32, 108, 101,
+    110, 103, 116, 104, 32, 116, 104, 97, 110, 32, 116, 104, 101, 32, 102, 105, 114, 115, 116, 116, 119, 111, 32, 115,
+    104, 97, 114, 101, 115, 32, 104, 97, 118, 101, 32, 111, 110, 101, 32, 105, 110, 100, 101, 120, 116, 104, 101, 32,
+    115, 104, 97, 114, 101, 115, 32, 99, 111, 110, 116, 114, 97, 100, 105, 99, 116, 32, 101, 97, 99, 104, 32, 111,
+    116, 104, 101, 114, 116, 104, 101, 114, 101, 32, 97, 114, 101, 32, 102, 101, 119, 101, 114, 32, 115, 104, 97, 114,
+    101, 115, 32, 116, 104, 97, 110, 32, 116, 104, 101, 32, 116, 104, 114, 101, 115, 104, 111, 108, 100, 44, 32, 111,
+    114, 32, 109, 111, 114, 101, 32, 116, 104, 97, 110, 32, 51, 49, 116, 104, 101, 32, 104, 117, 109, 97, 110, 45,
     114, 101, 97, 100, 97, 98, 108, 101, 32, 112, 97, 114, 116, 32, 105, 115, 32, 110, 111, 116, 32, 96, 109, 115,
     96, 97, 32, 99, 111, 100, 101, 120, 51, 50, 32, 115, 116, 114, 105, 110, 103, 32, 104, 97, 115, 32, 52, 56,
     32, 116, 111, 32, 57, 51, 32, 99, 104, 97, 114, 97, 99, 116, 101, 114, 115, 44, 32, 97, 32, 108, 111, 110,
@@ -236,8 +236,8 @@ ALIGNED(16) static const union {
     117, 118, 119, 120, 121, 122, 48, 50, 51, 52, 53, 54, 55, 56, 57, 0, 23, 0, 0, 0, 24, 0, 0, 0,
     21, 0, 0, 0, 22, 0, 0, 0, 12, 0, 0, 0, 11, 0, 0, 0, 13, 0, 0, 0, 14, 0, 0, 0,
     15, 0, 0, 0, 16, 0, 0, 0, 31, 0, 0, 0, 33, 0, 0, 0, 32, 0, 0, 0, 83, 0, 0, 0,
-    85, 0, 0, 0, 86, 0, 0, 0, 84, 0, 0, 0, 62, 0, 0, 0, 63, 0, 0, 0, 84, 0, 0, 0,
-    61, 0, 0, 0, 64, 0, 0, 0, 91, 0, 0, 0, 84, 0, 0, 0, 55, 0, 0, 0, 65, 0, 0, 0,
+    85, 0, 0, 0, 86, 0, 0, 0, 84, 0, 0, 0, 75, 0, 0, 0, 76, 0, 0, 0, 84, 0, 0, 0,
+    74, 0, 0, 0, 77, 0, 0, 0, 91, 0, 0, 0, 84, 0, 0, 0, 56, 0, 0, 0, 78, 0, 0, 0,
     66, 0, 0, 0, 68, 0, 0, 0, 92, 0, 0, 0,
 }};
 
@@ -352,7 +352,7 @@ OWN void put_64(u8 *p, u64 x) {
     p[7] = (u8)(x >> 56 & 255);
 }
 
-/* ---- the instructions that C has no sign for, by the names that portable/translate gives them. A number is held without
+/* ---- the instructions that C has no sign for, by the names that translator/translate gives them. A number is held without
  * a sign; where an instruction reads it with one, that is worked out on numbers without. */
 
 /* In the order of numbers with a sign. */
@@ -2675,7 +2675,7 @@ static void f11(Machine *m, u64 l0, u32 l1, u64 l2, u64 l3) {
     m->stack_pointer = t0;
 }
 
-/* codex32_steady_texts::residue::residue_error_of::<#771ad920835cb552> */
+/* codex32_steady::texts::residue::residue_error_of::<#771ad920835cb552> */
 static void f12(Machine *m, u64 l0, u64 l1, u64 l2, u64 l3, u64 l4) {
     u32 l7 = 0, w0;
     u64 l5 = 0, l6 = 0, t0, t1, t2;
@@ -2857,7 +2857,7 @@ static void f12(Machine *m, u64 l0, u64 l1, u64 l2, u64 l3, u64 l4) {
     return;
 }
 
-/* codex32_steady_texts::residue::residue_error_of::<#ff86a0b986cb5a24> */
+/* codex32_steady::texts::residue::residue_error_of::<#ff86a0b986cb5a24> */
 static void f13(Machine *m, u64 l0, u64 l1, u64 l2, u64 l3, u64 l4) {
     u32 l7 = 0, w0;
     u64 l5 = 0, l6 = 0, t0, t1, t2;
@@ -3357,7 +3357,7 @@ static void f16(Machine *m, u64 l0, u32 l1, u64 l2, u64 l3) {
     m->stack_pointer = t0;
 }
 
-/* codex32_steady_texts::parts::parts_of */
+/* codex32_steady::texts::parts::parts_of */
 static void f17(Machine *m, u64 l0, u64 l1, u64 l2) {
     u32 l6 = 0, l9 = 0, l10 = 0, l11 = 0, w0, w1, w2;
     u64 l4 = 0, l5 = 0, l7 = 0, l8 = 0, l12 = 0, t0, t1;
@@ -3957,7 +3957,7 @@ static u32 f21(Machine *m, u32 l0) {
     return 0;
 }
 
-/* codex32_steady_texts::residue::is_target::<#771ad920835cb552> */
+/* codex32_steady::texts::residue::is_target::<#771ad920835cb552> */
 static u32 f22(Machine *m, u64 l0, u64 l1) {
     u32 w0;
     u64 t0, t1;
@@ -4338,7 +4338,7 @@ static void f24(Machine *m, u64 l0, u64 l1, u64 l2) {
     return;
 }
 
-/* codex32_steady_texts::residue::is_target::<#ff86a0b986cb5a24> */
+/* codex32_steady::texts::residue::is_target::<#ff86a0b986cb5a24> */
 static u32 f25(Machine *m, u64 l0, u64 l1) {
     u32 w0;
     u64 t0, t1;
@@ -4351,7 +4351,7 @@ static u32 f25(Machine *m, u64 l0, u64 l1) {
     return 0;
 }
 
-/* codex32_shares::share::share_at::<#c80761ccec4e5c91> */
+/* codex32_steady::shares::share::share_at::<#c80761ccec4e5c91> */
 static void f26(Machine *m, u64 l0, u64 l1, u64 l2, u64 l3, u32 l4) {
     u32 l8 = 0, l13 = 0, l14 = 0, l15 = 0, l16 = 0, w0, w1, w2, w3;
     u64 l5 = 0, l6 = 0, l7 = 0, l9 = 0, l10 = 0, l11 = 0, l12 = 0, l17 = 0, t0, t1;
@@ -4614,7 +4614,7 @@ static void f26(Machine *m, u64 l0, u64 l1, u64 l2, u64 l3, u32 l4) {
     return;
 }
 
-/* codex32_shares::agreement::are_elements_of */
+/* codex32_steady::shares::agreement::are_elements_of */
 static u32 f27(Machine *m, u64 l0, u64 l1, u64 l2) {
     u32 l4 = 0, l5 = 0, w0, w1;
     u64 t0;
@@ -4793,7 +4793,7 @@ static u32 f30(Machine *m, u64 l0) {
     return 87u;
     L9:;
     w0 = l1 & 255u;
-    w0 = w0 ? 91u : 55u;
+    w0 = w0 ? 91u : 56u;
     return w0;
     L8:;
     return 34u;
@@ -8092,7 +8092,7 @@ static void f36(Machine *m, u64 l0, u64 l1, u64 l2, u64 l3) {
     return;
 }
 
-/* codex32_steady_texts::residue::put_error_residue */
+/* codex32_steady::texts::residue::put_error_residue */
 static void f37(Machine *m, u64 l0, u64 l1) {
     u32 l2 = 0, l3 = 0, l4 = 0, l5 = 0, l6 = 0, l7 = 0, l8 = 0, l9 = 0, l10 = 0, l11 = 0, l12 = 0, l13 = 0, l14 = 0, l15 = 0, l16 = 0, l17 = 0;
     u32 l18 = 0, l19 = 0, l20 = 0, l21 = 0, l22 = 0, l23 = 0, l24 = 0, l25 = 0, l26 = 0, l27 = 0, l28 = 0, l29 = 0, l30 = 0, l31 = 0, l32 = 0, l33 = 0;
@@ -16072,7 +16072,7 @@ static void f65(Machine *m, u64 l0, u64 l1, u64 l2, u64 l3) {
     m->stack_pointer = t0;
 }
 
-/* bech32_bch::decoder::candidate::<#a5ecb4d5f49d4d25> */
+/* bech32_bch::decoder::decode_errors::<#a5ecb4d5f49d4d25> */
 static void f66(Machine *m, u64 l0, u64 l1, u64 l2, u64 l3, u64 l4, u64 l5, u64 l6) {
     u32 l10 = 0, l11 = 0, l12 = 0, l13 = 0, l16 = 0, l18 = 0, l21 = 0, l22 = 0, l23 = 0, l24 = 0, l28 = 0, l30 = 0, l34 = 0, l36 = 0, l38 = 0, l40 = 0;
     u32 w0, w1, w2, w3;
@@ -19424,7 +19424,7 @@ static void f66(Machine *m, u64 l0, u64 l1, u64 l2, u64 l3, u64 l4, u64 l5, u64 
     m->stack_pointer = t0;
 }
 
-/* bech32_finders::division::is_same::<#ec7dd70f91e8cde7> */
+/* bech32_finders::division::row_equals::<#ec7dd70f91e8cde7> */
 static u32 f67(Machine *m, u64 l0, u64 l1, u64 l2) {
     u32 l3 = 0, l4 = 0, w0, w1;
     u64 t0, t1;
@@ -20753,30 +20753,30 @@ static u32 f80(Machine *m, u32 l0, u64 l1, u64 l2, u64 l3) {
     case 50: goto L4;
     case 51: goto L4;
     case 52: goto L4;
-    case 53: goto L32;
-    case 54: goto L4;
+    case 53: goto L4;
+    case 54: goto L32;
     case 55: goto L4;
     case 56: goto L4;
     case 57: goto L4;
     case 58: goto L4;
-    case 59: goto L31;
-    case 60: goto L30;
-    case 61: goto L29;
-    case 62: goto L28;
-    case 63: goto L27;
-    case 64: goto L26;
+    case 59: goto L4;
+    case 60: goto L4;
+    case 61: goto L4;
+    case 62: goto L4;
+    case 63: goto L4;
+    case 64: goto L31;
     case 65: goto L4;
-    case 66: goto L25;
+    case 66: goto L30;
     case 67: goto L4;
     case 68: goto L4;
     case 69: goto L4;
     case 70: goto L4;
     case 71: goto L4;
-    case 72: goto L4;
-    case 73: goto L4;
-    case 74: goto L4;
-    case 75: goto L4;
-    case 76: goto L4;
+    case 72: goto L29;
+    case 73: goto L28;
+    case 74: goto L27;
+    case 75: goto L26;
+    case 76: goto L25;
     case 77: goto L4;
     case 78: goto L4;
     case 79: goto L24;
@@ -20803,31 +20803,31 @@ static u32 f80(Machine *m, u32 l0, u64 l1, u64 l2, u64 l3) {
     goto L5;
     L31:;
     l6 = PLACE(1624u);
-    l7 = 41ull;
+    l7 = 58ull;
     goto L5;
     L30:;
-    l6 = PLACE(1665u);
-    l7 = 66ull;
+    l6 = PLACE(1682u);
+    l7 = 30ull;
     goto L5;
     L29:;
-    l6 = PLACE(1731u);
-    l7 = 25ull;
+    l6 = PLACE(1712u);
+    l7 = 41ull;
     goto L5;
     L28:;
-    l6 = PLACE(1756u);
-    l7 = 32ull;
+    l6 = PLACE(1753u);
+    l7 = 66ull;
     goto L5;
     L27:;
-    l6 = PLACE(1788u);
-    l7 = 58ull;
+    l6 = PLACE(1819u);
+    l7 = 25ull;
     goto L5;
     L26:;
-    l6 = PLACE(1846u);
-    l7 = 58ull;
+    l6 = PLACE(1844u);
+    l7 = 32ull;
     goto L5;
     L25:;
-    l6 = PLACE(1904u);
-    l7 = 30ull;
+    l6 = PLACE(1876u);
+    l7 = 58ull;
     goto L5;
     L24:;
     l6 = PLACE(1934u);
@@ -22521,7 +22521,7 @@ static void f94(Machine *m) {
 }
 
 /*
- * The functions of codex32.h, called as those of bech32.h are (portable/bech32_calls.c), and refused with
+ * The functions of codex32.h, called as those of bech32.h are (translator/bech32_calls.c), and refused with
  * CODEX32_NO_MEMORY in their place, a text, a payload or the texts of a set. A string is a secret: the library's stack is
  * filled with zeros before a call ends.
  */
@@ -22631,9 +22631,9 @@ uint32_t codex32_derive(uint32_t share_index, const uint8_t *texts, size_t texts
     }
     MACHINE(codex32_derive);
     u64 given_count = put_lengths(given, lengths, count), text_size = SOME(text_room);
-    u64 texts_at = lend(&m, texts, texts_length), given_at = lend(&m, given, 8 * given_count);
+    u64 texts_at = lend(&m, texts, texts_length), interpolate_if_consistent = lend(&m, given, 8 * given_count);
     u64 text_at = lend_room(&m, text, text_size), at = lend_room(&m, numbers, sizeof number_words);
-    uint32_t number = of_codex32_derive(&m, share_index, texts_at, texts_length, given_at, given_count, text_at, text_size, at);
+    uint32_t number = of_codex32_derive(&m, share_index, texts_at, texts_length, interpolate_if_consistent, given_count, text_at, text_size, at);
     if (number == CODEX32_OK) {
         *text_length = (size_t)get_64(numbers);
     }
@@ -22668,10 +22668,10 @@ uint32_t codex32_recover(const uint8_t *texts, size_t texts_length, const size_t
     }
     MACHINE(codex32_recover);
     u64 given_count = put_lengths(given, lengths, count), bytes_size = SOME(bytes_room);
-    u64 texts_at = lend(&m, texts, texts_length), given_at = lend(&m, given, 8 * given_count);
+    u64 texts_at = lend(&m, texts, texts_length), interpolate_if_consistent = lend(&m, given, 8 * given_count);
     u64 bytes_at = lend_room(&m, bytes, bytes_size), at = lend_room(&m, numbers, sizeof number_words);
     uint32_t number =
-        of_codex32_recover(&m, texts_at, texts_length, given_at, given_count, bytes_at, bytes_size, at);
+        of_codex32_recover(&m, texts_at, texts_length, interpolate_if_consistent, given_count, bytes_at, bytes_size, at);
     if (number == CODEX32_OK) {
         *bytes_length = (size_t)get_64(numbers);
     }

@@ -1,3 +1,5 @@
+/* Made by tools/make from include/codex32.h.in and docs/refusals.tsv; do not edit. */
+
 /*
  * Codex32 (BIP-93): splits a secret into shares and recovers it from them, reads, makes and derives
  * strings, and proposes the nearest string to a damaged one.
@@ -104,15 +106,15 @@ extern "C" {
 #define CODEX32_NO_SEPARATOR 23u        /* the text has no separator, `1` */
 #define CODEX32_WRONG_CHECKSUM 33u      /* the checksum is wrong */
 #define CODEX32_NO_NEAREST 34u          /* there is no nearest text */
-#define CODEX32_BAD_SIZE 55u            /* there are neither 16 to 44 bytes nor 63 or 64 */
-#define CODEX32_TOO_FEW_SHARES 61u      /* there are fewer shares than the threshold */
-#define CODEX32_OTHER_SET 62u           /* a share has another threshold, identifier or length than the
-                                           first */
-#define CODEX32_INDEX_TWICE 63u         /* two shares have one index */
-#define CODEX32_CONTRADICTION 64u       /* the shares contradict each other */
-#define CODEX32_BAD_COUNT 65u           /* there are fewer shares than the threshold, or more than 31 */
+#define CODEX32_BAD_SIZE 56u            /* there are neither 16 to 44 bytes nor 63 or 64 */
 #define CODEX32_BAD_RANDOM 66u          /* there are not as many random bytes as characters are drawn */
 #define CODEX32_EQUAL_RANDOM 68u        /* the random bytes are all equal */
+#define CODEX32_TOO_FEW_SHARES 74u      /* there are fewer shares than the threshold */
+#define CODEX32_OTHER_SET 75u           /* a share has another threshold, identifier or length than the
+                                           first */
+#define CODEX32_INDEX_TWICE 76u         /* two shares have one index */
+#define CODEX32_CONTRADICTION 77u       /* the shares contradict each other */
+#define CODEX32_BAD_COUNT 78u           /* there are fewer shares than the threshold, or more than 31 */
 #define CODEX32_NOT_MS 81u              /* the human-readable part is not `ms` */
 #define CODEX32_BAD_LENGTH 82u          /* a codex32 string has 48 to 93 characters, a long one 125 to
                                            127 */
@@ -174,7 +176,7 @@ uint32_t codex32_share(const uint8_t *text, size_t text_length, uint32_t *thresh
  *
  * To share a secret, call codex32_split: this function does not make shares that keep it.
  *
- * Refusals, the first that applies: 83, 85, 86, 84, 55, 92.
+ * Refusals, the first that applies: 83, 85, 86, 84, 56, 92.
  */
 uint32_t codex32_encode(uint32_t threshold, const uint8_t *identifier, size_t identifier_length,
                         uint32_t share_index, const uint8_t *bytes, size_t bytes_length,
@@ -189,7 +191,7 @@ uint32_t codex32_encode(uint32_t threshold, const uint8_t *identifier, size_t id
  *
  * To share a secret, call codex32_split, which makes all of its strings.
  *
- * Refusals, the first that applies: 83, 85, 86, 84; of the payload 21, 22, 55; 92.
+ * Refusals, the first that applies: 83, 85, 86, 84; of the payload 21, 22, 56; 92.
  */
 uint32_t codex32_encode_payload(uint32_t threshold, const uint8_t *identifier, size_t identifier_length,
                                 uint32_t share_index, const uint8_t *payload, size_t payload_length,
@@ -205,7 +207,7 @@ uint32_t codex32_encode_payload(uint32_t threshold, const uint8_t *identifier, s
  * *text_length is its length, that of each: CODEX32_TEXT_SIZE suffices.
  *
  * Refusals, the first that applies: 4; 86; of the texts in their order 2; 21, 22, 23, 11 to 15; 82; 81;
- * 33; 83; 84; then 62, 63, 84, 61, 64; 92.
+ * 33; 83; 84; then 75, 76, 84, 74, 77; 92.
  */
 uint32_t codex32_derive(uint32_t share_index, const uint8_t *texts, size_t texts_length,
                         const size_t *lengths, size_t count, uint8_t *text, size_t text_room,
@@ -236,7 +238,7 @@ uint32_t codex32_derive(uint32_t share_index, const uint8_t *texts, size_t texts
  * characters gives these shares. So they say nothing of the secret, nor do fewer, if the random bytes are
  * uniform. No proof says that they are.
  *
- * Refusals, the first that applies: 83, 85, 84 (the threshold is 0), 55, 65, 66, 68, 92.
+ * Refusals, the first that applies: 83, 85, 84 (the threshold is 0), 56, 78, 66, 68, 92.
  */
 uint32_t codex32_split(uint32_t threshold, const uint8_t *identifier, size_t identifier_length,
                        const uint8_t *secret, size_t secret_length, const uint8_t *random,
@@ -255,7 +257,7 @@ uint32_t codex32_split(uint32_t threshold, const uint8_t *identifier, size_t ide
  * when you are done.
  *
  * Refusals, the first that applies: 4; of the texts in their order 2; 21, 22, 23, 11 to 15; 82; 81; 33;
- * 83; 84; then 62, 63, 61, 64; 87; 92.
+ * 83; 84; then 75, 76, 74, 77; 87; 92.
  */
 uint32_t codex32_recover(const uint8_t *texts, size_t texts_length, const size_t *lengths, size_t count,
                          uint8_t *bytes, size_t bytes_room, size_t *bytes_length);

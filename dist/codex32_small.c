@@ -1,6 +1,6 @@
 /*
  * codex32.h in C99: the functions of the proved library, made of its object for WebAssembly (sha256
- * 73fec8d8ba29234ed9fd1c356d870486b1a9b037cb173400ceb0d7a33e1e1f07) by portable/translate. Do not edit.
+ * ed2a5365639fff05271c2874fe75b6a56819ae8c6516f968568557c8702f9547) by translator/translate. Do not edit.
  *
  *     cc -std=c99 -O2 -c codex32_small.c
  *
@@ -166,19 +166,19 @@ ALIGNED(16) static const union {
     32, 105, 115, 32, 110, 111, 32, 110, 101, 97, 114, 101, 115, 116, 32, 116, 101, 120, 116, 116, 104, 101, 114, 101,
     32, 97, 114, 101, 32, 110, 101, 105, 116, 104, 101, 114, 32, 49, 54, 32, 116, 111, 32, 52, 52, 32, 98, 121,
     116, 101, 115, 32, 110, 111, 114, 32, 54, 51, 32, 111, 114, 32, 54, 52, 116, 104, 101, 114, 101, 32, 97, 114,
-    101, 32, 102, 101, 119, 101, 114, 32, 115, 104, 97, 114, 101, 115, 32, 116, 104, 97, 110, 32, 116, 104, 101, 32,
-    116, 104, 114, 101, 115, 104, 111, 108, 100, 97, 32, 115, 104, 97, 114, 101, 32, 104, 97, 115, 32, 97, 110, 111,
-    116, 104, 101, 114, 32, 116, 104, 114, 101, 115, 104, 111, 108, 100, 44, 32, 105, 100, 101, 110, 116, 105, 102, 105,
-    101, 114, 32, 111, 114, 32, 108, 101, 110, 103, 116, 104, 32, 116, 104, 97, 110, 32, 116, 104, 101, 32, 102, 105,
-    114, 115, 116, 116, 119, 111, 32, 115, 104, 97, 114, 101, 115, 32, 104, 97, 118, 101, 32, 111, 110, 101, 32, 105,
-    110, 100, 101, 120, 116, 104, 101, 32, 115, 104, 97, 114, 101, 115, 32, 99, 111, 110, 116, 114, 97, 100, 105, 99,
-    116, 32, 101, 97, 99, 104, 32, 111, 116, 104, 101, 114, 116, 104, 101, 114, 101, 32, 97, 114, 101, 32, 102, 101,
-    119, 101, 114, 32, 115, 104, 97, 114, 101, 115, 32, 116, 104, 97, 110, 32, 116, 104, 101, 32, 116, 104, 114, 101,
-    115, 104, 111, 108, 100, 44, 32, 111, 114, 32, 109, 111, 114, 101, 32, 116, 104, 97, 110, 32, 51, 49, 116, 104,
-    101, 114, 101, 32, 97, 114, 101, 32, 110, 111, 116, 32, 97, 115, 32, 109, 97, 110, 121, 32, 114, 97, 110, 100,
-    111, 109, 32, 98, 121, 116, 101, 115, 32, 97, 115, 32, 99, 104, 97, 114, 97, 99, 116, 101, 114, 115, 32, 97,
-    114, 101, 32, 100, 114, 97, 119, 110, 116, 104, 101, 32, 114, 97, 110, 100, 111, 109, 32, 98, 121, 116, 101, 115,
-    32, 97, 114, 101, 32, 97, 108, 108, 32, 101, 113, 117, 97, 108, 116, 104, 101, 32, 104, 117, 109, 97, 110, 45,
+    101, 32, 110, 111, 116, 32, 97, 115, 32, 109, 97, 110, 121, 32, 114, 97, 110, 100, 111, 109, 32, 98, 121, 116,
+    101, 115, 32, 97, 115, 32, 99, 104, 97, 114, 97, 99, 116, 101, 114, 115, 32, 97, 114, 101, 32, 100, 114, 97,
+    119, 110, 116, 104, 101, 32, 114, 97, 110, 100, 111, 109, 32, 98, 121, 116, 101, 115, 32, 97, 114, 101, 32, 97,
+    108, 108, 32, 101, 113, 117, 97, 108, 116, 104, 101, 114, 101, 32, 97, 114, 101, 32, 102, 101, 119, 101, 114, 32,
+    115, 104, 97, 114, 101, 115, 32, 116, 104, 97, 110, 32, 116, 104, 101, 32, 116, 104, 114, 101, 115, 104, 111, 108,
+    100, 97, 32, 115, 104, 97, 114, 101, 32, 104, 97, 115, 32, 97, 110, 111, 116, 104, 101, 114, 32, 116, 104, 114,
+    101, 115, 104, 111, 108, 100, 44, 32, 105, 100, 101, 110, 116, 105, 102, 105, 101, 114, 32, 111, 114, 32, 108, 101,
+    110, 103, 116, 104, 32, 116, 104, 97, 110, 32, 116, 104, 101, 32, 102, 105, 114, 115, 116, 116, 119, 111, 32, 115,
+    104, 97, 114, 101, 115, 32, 104, 97, 118, 101, 32, 111, 110, 101, 32, 105, 110, 100, 101, 120, 116, 104, 101, 32,
+    115, 104, 97, 114, 101, 115, 32, 99, 111, 110, 116, 114, 97, 100, 105, 99, 116, 32, 101, 97, 99, 104, 32, 111,
+    116, 104, 101, 114, 116, 104, 101, 114, 101, 32, 97, 114, 101, 32, 102, 101, 119, 101, 114, 32, 115, 104, 97, 114,
+    101, 115, 32, 116, 104, 97, 110, 32, 116, 104, 101, 32, 116, 104, 114, 101, 115, 104, 111, 108, 100, 44, 32, 111,
+    114, 32, 109, 111, 114, 101, 32, 116, 104, 97, 110, 32, 51, 49, 116, 104, 101, 32, 104, 117, 109, 97, 110, 45,
     114, 101, 97, 100, 97, 98, 108, 101, 32, 112, 97, 114, 116, 32, 105, 115, 32, 110, 111, 116, 32, 96, 109, 115,
     96, 97, 32, 99, 111, 100, 101, 120, 51, 50, 32, 115, 116, 114, 105, 110, 103, 32, 104, 97, 115, 32, 52, 56,
     32, 116, 111, 32, 57, 51, 32, 99, 104, 97, 114, 97, 99, 116, 101, 114, 115, 44, 32, 97, 32, 108, 111, 110,
@@ -217,8 +217,8 @@ ALIGNED(16) static const union {
     23, 0, 0, 0, 24, 0, 0, 0, 21, 0, 0, 0, 22, 0, 0, 0, 12, 0, 0, 0, 11, 0, 0, 0,
     13, 0, 0, 0, 14, 0, 0, 0, 15, 0, 0, 0, 16, 0, 0, 0, 31, 0, 0, 0, 33, 0, 0, 0,
     32, 0, 0, 0, 83, 0, 0, 0, 85, 0, 0, 0, 86, 0, 0, 0, 84, 0, 0, 0, 84, 0, 0, 0,
-    55, 0, 0, 0, 65, 0, 0, 0, 66, 0, 0, 0, 68, 0, 0, 0, 92, 0, 0, 0, 62, 0, 0, 0,
-    63, 0, 0, 0, 84, 0, 0, 0, 61, 0, 0, 0, 64, 0, 0, 0, 91, 0, 0, 0,
+    56, 0, 0, 0, 78, 0, 0, 0, 66, 0, 0, 0, 68, 0, 0, 0, 92, 0, 0, 0, 75, 0, 0, 0,
+    76, 0, 0, 0, 84, 0, 0, 0, 74, 0, 0, 0, 77, 0, 0, 0, 91, 0, 0, 0,
 }};
 
 #ifdef MACHINE_IS_TESTED
@@ -332,7 +332,7 @@ OWN void put_64(u8 *p, u64 x) {
     p[7] = (u8)(x >> 56 & 255);
 }
 
-/* ---- the instructions that C has no sign for, by the names that portable/translate gives them. A number is held without
+/* ---- the instructions that C has no sign for, by the names that translator/translate gives them. A number is held without
  * a sign; where an instruction reads it with one, that is worked out on numbers without. */
 
 /* In the order of numbers with a sign. */
@@ -1277,7 +1277,7 @@ static void f5(Machine *m, u64 l0, u64 l1, u64 l2) {
     m->stack_pointer = t0;
 }
 
-/* codex32_steady_texts::parts::parts_of */
+/* codex32_steady::texts::parts::parts_of */
 static void f6(Machine *m, u64 l0, u64 l1, u64 l2) {
     u32 l6 = 0, l9 = 0, l10 = 0, l11 = 0, w0, w1, w2;
     u64 l4 = 0, l5 = 0, l7 = 0, l8 = 0, l12 = 0, t0, t1;
@@ -1687,7 +1687,7 @@ static u32 f8(Machine *m, u64 l0) {
     return 87u;
     L9:;
     w0 = l1 & 255u;
-    w0 = w0 ? 91u : 55u;
+    w0 = w0 ? 91u : 56u;
     return w0;
     L8:;
     return 34u;
@@ -2363,7 +2363,7 @@ static void f18(Machine *m, u64 l0, u64 l1, u64 l2, u64 l3, u32 l4) {
     I32_STORE8(m, t0, l6);
 }
 
-/* codex32_shares::share::share_at::<#d3a5b22fb1a2e82d> */
+/* codex32_steady::shares::share::share_at::<#d3a5b22fb1a2e82d> */
 static void f19(Machine *m, u64 l0, u64 l1, u64 l2, u64 l3, u32 l4) {
     u32 l8 = 0, l13 = 0, l14 = 0, l15 = 0, l16 = 0, w0, w1, w2, w3;
     u64 l5 = 0, l6 = 0, l7 = 0, l9 = 0, l10 = 0, l11 = 0, l12 = 0, l17 = 0, t0, t1;
@@ -2626,7 +2626,7 @@ static void f19(Machine *m, u64 l0, u64 l1, u64 l2, u64 l3, u32 l4) {
     return;
 }
 
-/* codex32_shares::agreement::are_elements_of */
+/* codex32_steady::shares::agreement::are_elements_of */
 static u32 f20(Machine *m, u64 l0, u64 l1, u64 l2) {
     u32 l4 = 0, l5 = 0, w0, w1;
     u64 t0;
@@ -3193,7 +3193,7 @@ static u32 f28(Machine *m, u32 l0, u64 l1, u64 l2, u64 l3, u64 l4, u64 l5, u64 l
     I64_STORE(m, l9 + 16u, 0ull);
     w0 = l12 == 0;
     if (w0) goto L4;
-    l10 = 61u;
+    l10 = 74u;
     goto L0;
     L4:;
     t0 = l9 + 16ull;
@@ -3477,7 +3477,7 @@ static u32 f30(Machine *m, u32 l0, u64 l1, u64 l2, u32 l3, u64 l4, u64 l5, u64 l
     t0 = l5 + 18446744073709551551ull;
     w0 = t0 >= 18446744073709551614ull;
     if (w0) goto L3;
-    l3 = 55u;
+    l3 = 56u;
     goto L0;
     L3:;
     t0 = l5 + 18446744073709551553ull;
@@ -3619,13 +3619,13 @@ static u32 f32(Machine *m, u32 l0, u64 l1, u64 l2, u32 l3, u64 l4, u64 l5, u64 l
     t0 = t0 & 7ull;
     w0 = t0 < 5ull;
     if (w0) goto L8;
-    l3 = 55u;
+    l3 = 56u;
     goto L0;
     L8:;
     l3 = 0u;
     goto L6;
     L7:;
-    l3 = 55u;
+    l3 = 56u;
     t0 = l5 + 18446744073709551515ull;
     w0 = t0 > 2ull;
     if (w0) goto L0;
@@ -3742,30 +3742,30 @@ static u32 f34(Machine *m, u32 l0, u64 l1, u64 l2, u64 l3) {
     case 50: goto L4;
     case 51: goto L4;
     case 52: goto L4;
-    case 53: goto L32;
-    case 54: goto L4;
+    case 53: goto L4;
+    case 54: goto L32;
     case 55: goto L4;
     case 56: goto L4;
     case 57: goto L4;
     case 58: goto L4;
-    case 59: goto L31;
-    case 60: goto L30;
-    case 61: goto L29;
-    case 62: goto L28;
-    case 63: goto L27;
-    case 64: goto L26;
+    case 59: goto L4;
+    case 60: goto L4;
+    case 61: goto L4;
+    case 62: goto L4;
+    case 63: goto L4;
+    case 64: goto L31;
     case 65: goto L4;
-    case 66: goto L25;
+    case 66: goto L30;
     case 67: goto L4;
     case 68: goto L4;
     case 69: goto L4;
     case 70: goto L4;
     case 71: goto L4;
-    case 72: goto L4;
-    case 73: goto L4;
-    case 74: goto L4;
-    case 75: goto L4;
-    case 76: goto L4;
+    case 72: goto L29;
+    case 73: goto L28;
+    case 74: goto L27;
+    case 75: goto L26;
+    case 76: goto L25;
     case 77: goto L4;
     case 78: goto L4;
     case 79: goto L24;
@@ -3792,31 +3792,31 @@ static u32 f34(Machine *m, u32 l0, u64 l1, u64 l2, u64 l3) {
     goto L5;
     L31:;
     l6 = PLACE(1792u);
-    l7 = 41ull;
+    l7 = 58ull;
     goto L5;
     L30:;
-    l6 = PLACE(1833u);
-    l7 = 66ull;
+    l6 = PLACE(1850u);
+    l7 = 30ull;
     goto L5;
     L29:;
-    l6 = PLACE(1899u);
-    l7 = 25ull;
+    l6 = PLACE(1880u);
+    l7 = 41ull;
     goto L5;
     L28:;
-    l6 = PLACE(1924u);
-    l7 = 32ull;
+    l6 = PLACE(1921u);
+    l7 = 66ull;
     goto L5;
     L27:;
-    l6 = PLACE(1956u);
-    l7 = 58ull;
+    l6 = PLACE(1987u);
+    l7 = 25ull;
     goto L5;
     L26:;
-    l6 = PLACE(2014u);
-    l7 = 58ull;
+    l6 = PLACE(2012u);
+    l7 = 32ull;
     goto L5;
     L25:;
-    l6 = PLACE(2072u);
-    l7 = 30ull;
+    l6 = PLACE(2044u);
+    l7 = 58ull;
     goto L5;
     L24:;
     l6 = PLACE(2102u);
@@ -4153,7 +4153,7 @@ static void f38(Machine *m) {
 }
 
 /*
- * The functions of codex32.h, called as those of bech32.h are (portable/bech32_calls.c), and refused with
+ * The functions of codex32.h, called as those of bech32.h are (translator/bech32_calls.c), and refused with
  * CODEX32_NO_MEMORY in their place, a text, a payload or the texts of a set. A string is a secret: the library's stack is
  * filled with zeros before a call ends.
  */
@@ -4245,9 +4245,9 @@ uint32_t codex32_derive(uint32_t share_index, const uint8_t *texts, size_t texts
     }
     MACHINE(codex32_derive);
     u64 given_count = put_lengths(given, lengths, count), text_size = SOME(text_room);
-    u64 texts_at = lend(&m, texts, texts_length), given_at = lend(&m, given, 8 * given_count);
+    u64 texts_at = lend(&m, texts, texts_length), interpolate_if_consistent = lend(&m, given, 8 * given_count);
     u64 text_at = lend_room(&m, text, text_size), at = lend_room(&m, numbers, sizeof number_words);
-    uint32_t number = of_codex32_derive(&m, share_index, texts_at, texts_length, given_at, given_count, text_at, text_size, at);
+    uint32_t number = of_codex32_derive(&m, share_index, texts_at, texts_length, interpolate_if_consistent, given_count, text_at, text_size, at);
     if (number == CODEX32_OK) {
         *text_length = (size_t)get_64(numbers);
     }
