@@ -35,11 +35,16 @@ fn beside<Ck: Checksum>(
     }
 }
 
+fn three_shown(alloc: Global, values: [Fe32; 3]) -> Result<String, AllocError> {
+    let (one, two, three) = (values[0], values[1], values[2]);
+    format!(in alloc; "{one}{two}{three}")
+}
+
 // The values at three locations, zero where there are fewer.
 fn values<Ck: Checksum>(alloc: Global, residue: &[Fe32], list: &str) -> Result<String, AllocError> {
     let locations = numbers(alloc, list)?;
     match Ck::values_at(residue, &locations) {
-        Some([one, two, three]) => format!(in alloc; "{one}{two}{three}"),
+        Some(values) => three_shown(alloc, values),
         None => String::from_str(alloc, "unknown"),
     }
 }

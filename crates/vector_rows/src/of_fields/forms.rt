@@ -38,6 +38,13 @@ macro_rules! each_assigned {
     }};
 }
 
+// The negative, and the sum of two elements and the first of them again, by an iterator.
+macro_rules! negative_and_sum {
+    ($x:ident, $y:ident) => {
+        [-$x, [$x, $y, $x].into_iter().sum()]
+    };
+}
+
 // The sum, the difference, the product and the quotient of two elements in each form.
 fn of_elements(x: Fe32, y: Fe32) -> [[Fe32; 4]; 4]
     requires { y ≢ zero }
@@ -101,9 +108,16 @@ fn scaled_triples(x: Fe32768, factor: Fe32) -> [Fe32768; 4] {
     each_form!(x * factor)
 }
 
-// The negative, and the sum of two elements and the first of them again, by an iterator.
-fn negative_and_sum<F: Field>(x: F, y: F) -> [F; 2] {
-    [-x, [x, y, x].into_iter().sum::<F>()]
+fn further_elements(x: Fe32, y: Fe32) -> [Fe32; 2] {
+    negative_and_sum!(x, y)
+}
+
+fn further_pairs(x: Fe1024, y: Fe1024) -> [Fe1024; 2] {
+    negative_and_sum!(x, y)
+}
+
+fn further_triples(x: Fe32768, y: Fe32768) -> [Fe32768; 2] {
+    negative_and_sum!(x, y)
 }
 
 // The four forms of each of the four operators, then what stands behind each assigning one, then
@@ -128,7 +142,7 @@ fn reply_of_elements(alloc: Global, text: &str) -> Result<String, AllocError> {
     match digits(alloc, text)?.as_slice() {
         [x, y] if *y != Fe32::Q => {
             let (forms, assigned) = (of_elements(*x, *y), assigned_elements(*x, *y));
-            all_shown(alloc, &forms, &assigned, &negative_and_sum(*x, *y))
+            all_shown(alloc, &forms, &assigned, &further_elements(*x, *y))
         }
         _ => no_row(alloc),
     }
@@ -139,7 +153,7 @@ fn reply_of_pairs(alloc: Global, text: &str, factor: Fe32) -> Result<String, All
     match extended::<2>(alloc, text)?.as_slice() {
         [x, y] if *y != Fe1024::ZERO => {
             let (forms, assigned) = (of_pairs(*x, *y), assigned_pairs(*x, *y));
-            let [negative, sum] = negative_and_sum(*x, *y);
+            let [negative, sum] = further_pairs(*x, *y);
             let [a, b, c, d] = scaled_pairs(*x, factor);
             all_shown(alloc, &forms, &assigned, &[negative, sum, a, b, c, d])
         }
@@ -152,7 +166,7 @@ fn reply_of_triples(alloc: Global, text: &str, factor: Fe32) -> Result<String, A
     match extended::<3>(alloc, text)?.as_slice() {
         [x, y] if *y != Fe32768::ZERO => {
             let (forms, assigned) = (of_triples(*x, *y), assigned_triples(*x, *y));
-            let [negative, sum] = negative_and_sum(*x, *y);
+            let [negative, sum] = further_triples(*x, *y);
             let [a, b, c, d] = scaled_triples(*x, factor);
             all_shown(alloc, &forms, &assigned, &[negative, sum, a, b, c, d])
         }
