@@ -9,17 +9,20 @@ use std::alloc::{AllocError, Global};
 use testing_tools::code::Code;
 use testing_tools::seven::Seven;
 
+// The elements that a field declares.
+fn declared_elements<E: ExtensionField + Bech32Field>(alloc: Global) -> Result<String, AllocError> {
+    let zero = E::ZERO;
+    let least = E::default();
+    let one = E::ONE;
+    let generator = E::GENERATOR;
+    let polynomial = E::POLYNOMIAL;
+    let element = E::EXT_ELEM;
+    format!(in alloc; "{zero} {least} {one} {generator} {polynomial} {element}")
+}
+
 // The elements and numbers that a field declares, and its divisors in both ways.
 fn constants<E: ExtensionField + Bech32Field>(alloc: Global) -> Result<String, AllocError> {
-    let elements = [
-        E::ZERO,
-        E::default(),
-        E::ONE,
-        E::GENERATOR,
-        E::POLYNOMIAL,
-        E::EXT_ELEM,
-    ];
-    let elements = shown(alloc, &elements)?;
+    let elements = declared_elements::<E>(alloc)?;
     let numbers = [E::CHARACTERISTIC, E::MULTIPLICATIVE_ORDER, E::DEGREE];
     let numbers = shown(alloc, &numbers)?;
     let factors = shown(alloc, E::MULTIPLICATIVE_ORDER_FACTORS)?;
