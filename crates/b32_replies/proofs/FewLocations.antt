@@ -13,7 +13,7 @@ use Rattle.bech32_bch.specs.Pattern.{errors_outside}
 use Rattle.bech32_bch.proofs.Loops.{has-true}
 use Rattle.bech32_bch.proofs.Places.{look}
 use Rattle.bech32_correction.specs.Mistyped.{HasNoListing, IsListingOf}
-use Rattle.bech32_finders.proofs.Added.{with_erasures-append}
+use Rattle.bech32_lookup.proofs.Added.{with_erasures-append}
 use Rattle.bech32_correction.proofs.Inside.{all-with_erasures}
 use Rattle.b32_replies.specs.Reply.{IsCorrectAnswer, SaysMended, SaysNone}
 

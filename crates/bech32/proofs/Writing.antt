@@ -1,6 +1,6 @@
 -- What a watched device took, the device took.
 use Rattle.std.proofs.Common.{◌≡◌, ◌≤◌, ℕ, Bool, List, [], ◌∷◌, length, take, Option, Result, Ok, Err, ap, IfErr}
-use Rattle.devices.proofs.Through.{writes_through}
+use Rattle.io_traits.proofs.Through.{writes_through}
 use Rattle.bech32_gf.specs.declared.gf32.Fe32.{Fe32}
 use Rattle.bech32_checksum.specs.Code.{Code}
 use Rattle.bech32.specs.Writing.{WritesText, IsFmtRefusal, IsIoRefusal}

@@ -10,7 +10,7 @@ use crate::{EncodeError, EncodeIoError, encoded_length};
 use bech32_checksum::Checksum;
 use bech32_encode::TextInPieces;
 use bech32_hrp::Hrp;
-use devices::{ByteSink, FmtSink, Watched, pieces_into_bytes, pieces_into_fmt};
+use io_traits::{ByteSink, FmtSink, Watched, pieces_into_bytes, pieces_into_fmt};
 use std::{fmt, io};
 
 /// Encodes bytes under a human-readable part into a sink of text, in upper case or in lower case.

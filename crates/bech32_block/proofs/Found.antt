@@ -9,7 +9,7 @@ use Rattle.bech32_gf.specs.declared.gf32.Fe32.{Fe32}
 use Rattle.bech32_poly.specs.Embedding.{Embeds}
 use Rattle.bech32_checksum.specs.Roots.{HasLawfulRoots}
 use Rattle.bech32_block.specs.Series.{IsLongestSeries, IsLeastPower, IsPeriod}
-use Rattle.bech32_words.specs.Words.{code_of_written}
+use Rattle.bech32_packing.specs.Words.{code_of_written}
 use Rattle.bech32_block.specs.Roots.{RootField, AreOfLongestSeries, HasAllRoots, HasNoExponents, roots_of}
 use Rattle.bech32_block.proofs.Lawful.{of_series, no_exponents, lawful}
 use Rattle.bech32_block.proofs.Pairs.{at_least_two}

@@ -17,7 +17,7 @@ use Rattle.bech32_poly.specs.Remainder.{monic}
 use Rattle.bech32_poly.specs.RootSearch.{root_exponents}
 use Rattle.bech32_poly.proofs.Embedding.{value_in-monic}
 use Rattle.bech32_checksum.specs.Roots.{generator_at}
-use Rattle.bech32_words.specs.Words.{code_of_written}
+use Rattle.bech32_packing.specs.Words.{code_of_written}
 use Rattle.bech32_block.specs.Roots.{RootField, roots_of}
 
 range-rises : (a n : ℕ) → IsStrictlyIncreasing (range_with_len a n)

@@ -4,7 +4,7 @@ use Rattle.bech32_gf.specs.declared.gf32.Fe32.{Fe32}
 use Rattle.bech32_checksum.specs.Code.{code_of}
 use Rattle.bech32_checksum.specs.PackingLaws.{KeepsPackingLaws}
 use Rattle.bech32_checksum.specs.Roots.{HasLawfulRoots}
-use Rattle.bech32_words.specs.Words.{code_of_written, width_of}
+use Rattle.bech32_packing.specs.Words.{code_of_written, width_of}
 use Rattle.bech32_block.specs.Roots.{RootField, AreOfLongestSeries}
 use Rattle.bech32_block.specs.Roots.{HasAllRoots, roots_of}
 

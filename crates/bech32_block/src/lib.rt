@@ -1,6 +1,6 @@
 //! The printed block of a checksum: from a generator and a target to Rust code that defines it.
 //!
-//! Below it: `bech32_words`.
+//! Below it: `bech32_packing`.
 //! Standard: BIP-173, Checksum.
 #![tactic(auto)]
 

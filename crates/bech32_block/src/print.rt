@@ -16,7 +16,7 @@ use crate::text::{Characters, Code, Reversed, WordLines, digits_of_degree, type_
 use bech32_gf::field::{Bech32Field, ExtensionField};
 use bech32_gf::gf32::Fe32;
 use bech32_gf_ext::Fe1024;
-use bech32_words::Words;
+use bech32_packing::Words;
 use std::alloc::{Allocator, Global};
 use std::fmt;
 

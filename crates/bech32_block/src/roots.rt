@@ -7,7 +7,7 @@ ghost use Rattle.bech32_poly.specs.Remainder.{monic};
 ghost use Rattle.bech32_checksum.specs.Roots.{HasLawfulRoots};
 ghost use Rattle.bech32_block.specs.Refusals.{IsPrintRefusal};
 ghost use Rattle.bech32_block.specs.Roots.{AreOfLongestSeries, HasAllRoots, root_field, roots_of};
-ghost use Rattle.bech32_words.specs.Words.{code_of_written};
+ghost use Rattle.bech32_packing.specs.Words.{code_of_written};
 
 use crate::error::PrintError;
 use crate::series::{least_power, longest_series, period};

@@ -17,7 +17,7 @@ use Rattle.bech32_bch.specs.Listing.{IsSound}
 use Rattle.bech32_bch.specs.Pattern.{HasRemainder, IsSamePattern, Solves, errors_outside, locations}
 use Rattle.bech32_bch.proofs.Places.{once_fits}
 use Rattle.bech32_bch.proofs.Rising.{once_in_order}
-use Rattle.bech32_finders.specs.Carried.{of_checksum}
+use Rattle.bech32_lookup.specs.Carried.{of_checksum}
 use Rattle.bech32_decode.specs.Acceptance.{Accepts}
 use Rattle.bech32_decode.specs.Checked.{IsRefusedByChecksum}
 use Rattle.bech32_decode.specs.Refusals.{HasLengths, IsChecksumRefusal}

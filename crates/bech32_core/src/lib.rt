@@ -7,7 +7,7 @@
 pub use bech32_checksum as checksum;
 pub use bech32_encode as encode;
 pub use bech32_hrp as hrp;
-pub use devices as device;
+pub use io_traits as device;
 
 /// Iterators that regroup bits, and add checksums.
 pub mod iter {

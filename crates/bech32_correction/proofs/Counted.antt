@@ -2,7 +2,7 @@
 use Rattle.std.proofs.Common.{◌≡◌, ℕ, ◌+◌, ◌<◌, ◌≤◌, Bool, false, cond, List, [], ◌∷◌, ◌++◌, length, length-append, take, drop, get_or, sym, ap, ◌∙◌, arith}
 use Rattle.std.proofs.lemmas.List.{take_more, take-append-drop}
 use Rattle.bech32_bch.specs.Erasures.{has, with_erasures}
-use Rattle.bech32_finders.proofs.Added.{length-with_erasures, with_erasures-append}
+use Rattle.bech32_lookup.proofs.Added.{length-with_erasures, with_erasures-append}
 
 -- one more location, with those before it
 pub one_more : (given different : List ℕ) (i x : ℕ) → i < length given → get_or given i 0 ≡ x → different ≡ with_erasures [] (take i given)

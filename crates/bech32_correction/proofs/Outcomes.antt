@@ -15,8 +15,8 @@ use Rattle.bech32_checksum.specs.Code.{Code}
 use Rattle.bech32_checksum.specs.Encoded.{char_of_element}
 use Rattle.bech32_checksum.specs.TextPolynomial.{text_polynomial}
 use Rattle.bech32_bch.specs.Erasures.{AreErasures, with_erasures}
-use Rattle.bech32_finders.specs.Carried.{of_checksum}
-use Rattle.bech32_finders.specs.Question.{Explains, IsAnswerTo, IsOnlyListing, Question, listing_of_one}
+use Rattle.bech32_lookup.specs.Carried.{of_checksum}
+use Rattle.bech32_lookup.specs.Question.{Explains, IsAnswerTo, IsOnlyListing, Question, listing_of_one}
 use Rattle.bech32_correction.specs.Given.{IsAnswerWith}
 use Rattle.bech32_correction.proofs.Different.{erasures_are}
 use Rattle.bech32_decode.specs.Acceptance.{Accepts}

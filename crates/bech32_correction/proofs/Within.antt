@@ -5,8 +5,8 @@ use Rattle.std.proofs.Common.{◌≡◌, ◌<◌, ◌≤◌, ℕ, List, [], ◌�
 use Rattle.bech32_gf.specs.declared.gf32.Fe32.{Fe32}
 use Rattle.bech32_checksum.specs.Code.{Code}
 use Rattle.bech32_bch.specs.Erasures.{AreErasures, with_erasures}
-use Rattle.bech32_finders.specs.Question.{IsAnswerTo, Question}
-use Rattle.bech32_finders.proofs.Added.{erasures_more}
+use Rattle.bech32_lookup.specs.Question.{IsAnswerTo, Question}
+use Rattle.bech32_lookup.proofs.Added.{erasures_more}
 use Rattle.bech32_correction.specs.Given.{AreWithin, IsAnswerWith, with_given}
 
 -- the different ones, where all are below the window

@@ -1,7 +1,7 @@
 -- The residue error that an error holds.
 use Rattle.std.specs.Prelude.{Option, None}
 use Rattle.bech32_refusals.specs.declared.error.InvalidResidueError.{InvalidResidueError}
-use Rattle.bech32_finders.specs.Carried.{of_checksum}
+use Rattle.bech32_lookup.specs.Carried.{of_checksum}
 use Rattle.bech32_refusals.specs.declared.error.CheckedHrpstringError.{CheckedHrpstringError}
 use Rattle.bech32_refusals.specs.declared.error.CheckedHrpstringError.TheVariants as checked
 use Rattle.bech32_refusals.specs.declared.error.SegwitHrpstringError.{SegwitHrpstringError}

@@ -4,7 +4,7 @@ use Rattle.std.specs.List.{AllByRecursion}
 use Rattle.bech32_gf.specs.declared.gf32.Fe32.{Fe32}
 use Rattle.bech32_checksum.specs.Code.{Code}
 use Rattle.bech32_bch.specs.Erasures.{with_erasures}
-use Rattle.bech32_finders.specs.Question.{IsAnswerTo, Question}
+use Rattle.bech32_lookup.specs.Question.{IsAnswerTo, Question}
 
 -- each location is below the window, and they are no more than the bound
 abbrev pub AreWithin : ℕ → ℕ → List ℕ → Type 0

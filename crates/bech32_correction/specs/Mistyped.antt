@@ -20,10 +20,10 @@ use Rattle.bech32_refusals.specs.declared.error.CheckedHrpstringError.{CheckedHr
 use Rattle.bech32_refusals.specs.declared.error.CheckedHrpstringError.TheVariants.{Checksum, Parse}
 use Rattle.bech32_refusals.specs.declared.error.ChecksumError.TheVariants.{InvalidResidue}
 use Rattle.bech32_refusals.specs.declared.error.InvalidResidueError.{InvalidResidueError}
-use Rattle.bech32_finders.specs.Carried.{of_checksum}
+use Rattle.bech32_lookup.specs.Carried.{of_checksum}
 use Rattle.bech32_correction.specs.Carried.{of_checked}
 use Rattle.bech32_correction.specs.MendedElements.{mended}
-use Rattle.bech32_finders.specs.Question.{Explains, IsOnlyListing, Question}
+use Rattle.bech32_lookup.specs.Question.{Explains, IsOnlyListing, Question}
 use Rattle.bech32_correction.specs.declared.correcting.Correction.{Correction}
 use Rattle.bech32_correction.specs.declared.correcting.Correction.TheVariants.{Accepted, Mended}
 use Rattle.bech32_correction.specs.declared.correcting.Correction.TheVariants.{Unexplained}

@@ -6,7 +6,7 @@ ghost use Rattle.bech32_refusals.specs.declared.error.InvalidResidueError.{Inval
 
 use crate::corrector::Corrector;
 use bech32_checksum::Checksum;
-use bech32_finders::residue_error_of;
+use bech32_lookup::residue_error_of;
 use bech32_refusals::{
     CheckedHrpstringError, ChecksumError, DecodeError, InvalidResidueError, SegwitHrpstringError,
 };
@@ -76,7 +76,7 @@ impl CorrectableError for InvalidResidueError {
 }
 
 impl CorrectableError for ChecksumError {
-    ghost use Rattle.bech32_finders.specs.Carried.{of_checksum};
+    ghost use Rattle.bech32_lookup.specs.Carried.{of_checksum};
 
     ghost carried = { of_checksum };
 

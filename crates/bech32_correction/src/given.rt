@@ -4,7 +4,7 @@
 ghost use Rattle.std.specs.Prelude.{◌≡◌, ◌≤◌, ◌<◌, ◌+◌, ℕ, List, length, IfOk, IfSome, IsOk};
 ghost use Rattle.bech32_bch.specs.Erasures.{AreErasures};
 ghost use Rattle.bech32_bch.specs.Search.{locators};
-ghost use Rattle.bech32_finders.specs.Question.{IsAnswerTo};
+ghost use Rattle.bech32_lookup.specs.Question.{IsAnswerTo};
 ghost use Rattle.bech32_poly.specs.FieldVec.{FitsInPlace};
 ghost use Rattle.bech32_correction.specs.Given.{IsAnswerWith};
 
@@ -12,10 +12,10 @@ use crate::corrector::Corrector;
 use crate::erasures::distinct_below;
 use bech32_bch::{ShortVec, locators_of};
 use bech32_checksum::Checksum;
-use bech32_finders::{
+use bech32_gf::gf32::Fe32;
+use bech32_lookup::{
     bound, correct_by_roots, correct_erased, correct_single, is_filled, lookup_erasures,
 };
-use bech32_gf::gf32::Fe32;
 use bech32_poly::fieldvec::FieldVec;
 use std::alloc::{AllocError, Allocator};
 use std::marker::PhantomData;

@@ -1,6 +1,6 @@
 //! Encodes elements as texts, one character at a time and without memory.
 //!
-//! Below it: `bech32_checksum`, `bech32_bits`, `devices`.
+//! Below it: `bech32_checksum`, `bech32_bits`, `io_traits`.
 //! Standard: BIP-173, Bech32 and Checksum; BIP-350.
 #![tactic(auto)]
 

@@ -19,7 +19,7 @@ use super::groups::put_bytes;
 use bech32_checksum::{Checksum, Engine};
 use bech32_gf::gf32::Fe32;
 use bech32_hrp::Hrp;
-use devices::Pieces;
+use io_traits::Pieces;
 
 // How many bytes go into a piece at most. Eight elements stand for each five of them, so that none
 // is cut.

@@ -14,7 +14,7 @@ use Rattle.bech32_decode.specs.Refusals.{HasLengths}
 use Rattle.bech32_decode.specs.Text.{IsText, text_refusal}
 use Rattle.bech32_decode.proofs.Grammar.{text_refusal-none}
 use Rattle.bech32_encode.specs.Buffers.{IsPut}
-use Rattle.bech32_finders.specs.Question.{Question}
+use Rattle.bech32_lookup.specs.Question.{Question}
 use Rattle.bech32_near.specs.NearTexts.{AreNearTexts, IsNearText, IsOutOfMemory, IsSearcherOf}
 use Rattle.bech32_near.proofs.Found.{near_texts}
 use Rattle.bech32_near.proofs.Nearby.{listings-from_outside, residue_left_by}

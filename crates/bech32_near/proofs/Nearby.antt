@@ -37,12 +37,12 @@ use Rattle.bech32_correction.specs.Mistyped.{AreInside, HasResidue, IsMendedText
 use Rattle.bech32_bch.specs.Detection.{DetectsFour}
 use Rattle.bech32_near.specs.search.Nearest.{AreNearest, AreRising, IsEarlier, IsListed, IsNear, IsNearListing}
 use Rattle.bech32_near.specs.NearTexts.{AreNearestListings, BeginsWith, IsNearText, IsSearch, IsSearched, IsSearcherOf, differences_outside}
-use Rattle.bech32_finders.specs.Question.{Question}
+use Rattle.bech32_lookup.specs.Question.{Question}
 use Rattle.bech32_correction.proofs.Accepted.{front, in_parts, mended_accepted}
 use Rattle.bech32_correction.proofs.Outcomes.{no_elements}
-use Rattle.bech32_finders.proofs.Added.{erasures_more}
+use Rattle.bech32_lookup.proofs.Added.{erasures_more}
 use Rattle.bech32_near.proofs.Differing.{differences, few_outside, is_pattern, mended_to, none_differ, residue_left}
-use Rattle.bech32_finders.proofs.Mends.{mends}
+use Rattle.bech32_lookup.proofs.Mends.{mends}
 use Rattle.bech32_near.proofs.NearestListing.{each_below}
 use Rattle.bech32_near.proofs.NearestPatterns.{gathered_of, no_nearest}
 

@@ -10,7 +10,7 @@ use Rattle.bech32_bch.specs.Erasures.{AreErasures}
 use Rattle.bech32_bch.specs.Listing.{IsListing, IsSound}
 use Rattle.bech32_bch.specs.Pattern.{Solves}
 use Rattle.bech32_bch.proofs.Places.{drop_first}
-use Rattle.bech32_finders.specs.TakenOff.{IsTakenOff}
+use Rattle.bech32_lookup.specs.TakenOff.{IsTakenOff}
 use Rattle.bech32_near.specs.search.Nearest.{IsEarlier}
 use Rattle.bech32_near.specs.search.Steps.{AreAdded, AreAll, HasHighest, HasHighestAt, HasHighestBelow, IsGathered, raised, with_highest}
 use Rattle.bech32_near.proofs.NearestErrors.{ErasedFrom, OpenedGathered, SameParts, erased_from, erased_to, open_last, raised_earlier, raised_from, raised_to, same_parts}

@@ -12,12 +12,12 @@ use Rattle.bech32_gf.specs.laws.Fe32Laws.{is_field}
 use Rattle.bech32_poly.specs.Distinct.{IsAmong}
 use Rattle.bech32_bch.specs.Erasures.{AreErasures, has, with_erasures}
 use Rattle.bech32_checksum.specs.Code.{Code}
-use Rattle.bech32_finders.specs.TakenOff.{IsTakenOff}
+use Rattle.bech32_lookup.specs.TakenOff.{IsTakenOff}
 use Rattle.bech32_bch.specs.Detection.{DetectsFour}
 use Rattle.bech32_near.specs.search.Nearest.{AreNearest, IsEarlier}
 use Rattle.bech32_near.specs.search.Steps.{AreAdded, AreAll, CanBeHighest, HasHighest, HasHighestAt, IsErasedAnswer, IsGathered, IsTried, raised, with_highest}
-use Rattle.bech32_finders.specs.Question.{IsAnswerTo, Question}
-use Rattle.bech32_finders.proofs.Added.{erasures_more, with_erasures-append}
+use Rattle.bech32_lookup.specs.Question.{IsAnswerTo, Question}
+use Rattle.bech32_lookup.proofs.Added.{erasures_more, with_erasures-append}
 use Rattle.bech32_correction.specs.Given.{IsAnswerWith, up_to, with_given}
 use Rattle.bech32_correction.proofs.Different.{erasures_are}
 use Rattle.bech32_bch.proofs.Places.{all_push}

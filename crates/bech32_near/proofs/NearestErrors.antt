@@ -14,7 +14,7 @@ use Rattle.bech32_bch.specs.Listing.{IsInOrder}
 use Rattle.bech32_bch.specs.Pattern.{HasRemainder, locations}
 use Rattle.bech32_bch.proofs.Patterns.{at_rest}
 use Rattle.bech32_bch.proofs.Places.{drop_first, locations-append, mem_left, mem_split}
-use Rattle.bech32_finders.specs.TakenOff.{IsTakenOff}
+use Rattle.bech32_lookup.specs.TakenOff.{IsTakenOff}
 use Rattle.bech32_near.specs.search.Nearest.{IsEarlier}
 use Rattle.bech32_near.specs.search.Steps.{HasHighest, IsOtherError, IsGathered, raised, with_highest}
 use Rattle.bech32_near.proofs.NearestListing.{each_below, each_lower, at-erased, at-highest, gathered_above, length-placed, same_remains, take_first}

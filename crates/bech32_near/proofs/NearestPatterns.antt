@@ -20,7 +20,7 @@ use Rattle.bech32_bch.proofs.Rising.{once_in_order}
 use Rattle.bech32_near.specs.search.Nearest.{IsEarlier, IsListed, IsNear, IsNearListing, IsNearestList}
 use Rattle.bech32_near.specs.search.Steps.{AreAll, IsOtherError, IsGathered, with_highest}
 use Rattle.bech32_near.proofs.NearestListing.{all_weaker, each_higher, each_location, located_below, located_outside, lower_gathered, put_all, put_in_order, same_remains}
-use Rattle.bech32_finders.proofs.Remainders.{left_over}
+use Rattle.bech32_lookup.proofs.Remainders.{left_over}
 
 -- two that come before one another are the same
 never_both : (x y : ℕ) → ComesBefore x y → ComesBefore y x → ⊥

@@ -9,7 +9,7 @@ use Rattle.bech32_checksum.specs.Encoded.{spelled}
 use Rattle.bech32_bch.specs.Erasures.{with_erasures}
 use Rattle.bech32_correction.specs.Given.{AreWithin, with_given}
 use Rattle.bech32_correction.specs.MendedElements.{mended}
-use Rattle.bech32_finders.specs.Question.{Question}
+use Rattle.bech32_lookup.specs.Question.{Question}
 use Rattle.bech32_near.specs.search.Nearest.{AreNearest}
 use Rattle.bech32_near.specs.NearTexts.{AreNearestListings, IsNearText, IsOutOfMemory, IsSearched, IsSearcherOf}
 use Rattle.bech32_near.proofs.Found.{near_text}

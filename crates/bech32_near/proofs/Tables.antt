@@ -7,7 +7,7 @@ use Rattle.bech32_gf.specs.Fe32.{ops}
 use Rattle.bech32_gf.specs.declared.gf32.Fe32.{Fe32}
 use Rattle.bech32_gf.specs.laws.Fe32Laws.{is_field}
 use Rattle.bech32_checksum.specs.Code.{Code}
-use Rattle.bech32_finders.specs.Question.{Question}
+use Rattle.bech32_lookup.specs.Question.{Question}
 use Rattle.bech32_near.specs.search.Added.{IsTableFor}
 use Rattle.bech32_near.specs.search.Nearest.{IsEarlier}
 use Rattle.bech32_near.specs.search.Sketch.{AreColumns, AreEntries, AreForgotten, IsTable, entry_number, sketch, sketch_at}

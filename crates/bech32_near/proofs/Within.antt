@@ -9,7 +9,7 @@ use Rattle.bech32_gf.specs.laws.Fe32Laws.{is_field}
 use Rattle.bech32_bch.specs.Erasures.{AreErasures}
 use Rattle.bech32_bch.proofs.Places.{drop_first}
 use Rattle.bech32_checksum.specs.Code.{Code}
-use Rattle.bech32_finders.specs.Question.{IsAnswerTo, Question}
+use Rattle.bech32_lookup.specs.Question.{IsAnswerTo, Question}
 use Rattle.bech32_near.specs.search.Nearest.{AreNearest}
 use Rattle.bech32_near.proofs.NearestAdded.{AreWithin, IsAnswer, alone_not, alone_one, found_gathered}
 use Rattle.bech32_near.proofs.NearestAnswers.{answer_of, are_nearest}

@@ -17,7 +17,7 @@ use Rattle.bech32_correction.specs.declared.error.CorrectError.{CorrectError}
 use Rattle.bech32_correction.specs.declared.error.CorrectError.TheVariants.{Memory, Refused}
 use Rattle.bech32_bch.specs.Detection.{DetectsFour}
 use Rattle.bech32_near.specs.search.Nearest.{AreNearest}
-use Rattle.bech32_finders.specs.Question.{Question}
+use Rattle.bech32_lookup.specs.Question.{Question}
 
 -- the checksum has characters, and each given location is that of one of the data part
 abbrev pub IsSearched : Code → List ℕ → List ℕ → Type 0

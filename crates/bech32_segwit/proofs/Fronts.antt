@@ -14,8 +14,8 @@ use Rattle.bech32_encode.specs.Cased.{in_case, IsTextInCase}
 use Rattle.bech32_encode.proofs.Encoding.{IsAscii-encoded}
 use Rattle.bech32_encode.proofs.TextsLeft.{IsAscii-in_case, shown_front}
 use Rattle.bech32_decode.specs.Segwit.{segwit_code}
-use Rattle.devices.specs.Marks.{IsErrorOfLastWrite}
-use Rattle.devices.proofs.Through.{writes_through}
+use Rattle.io_traits.specs.Marks.{IsErrorOfLastWrite}
+use Rattle.io_traits.proofs.Through.{writes_through}
 use Rattle.bech32_segwit.specs.Unchecked.{IsFrontOfText, WritesFront, AppendsFront, AppendsPartOfFront, IsErrorOfFront}
 
 -- what was put of a text by one code, where that is the version's

@@ -12,7 +12,7 @@ use bech32_decode::segwit::MAX_STRING_LENGTH;
 use bech32_encode::put_front_of_text;
 use bech32_gf::gf32::Fe32;
 use bech32_hrp::Hrp;
-use devices::{ByteSink, FmtSink, Watched, write_all};
+use io_traits::{ByteSink, FmtSink, Watched, write_all};
 use std::{fmt, io};
 
 // Puts the first 90 characters of the text by the checksum of the version, and returns how many

@@ -20,13 +20,13 @@ use Rattle.bech32_checksum.specs.Code.{Code, bech32m}
 use Rattle.bech32_checksum.specs.Packed.{digits}
 use Rattle.bech32_checksum.specs.Roots.{AreLawfulRoots}
 use Rattle.bech32_checksum.specs.laws.RootLaws.{base, bech32_roots}
-use Rattle.bech32_finders.specs.Found.{IsErasedListing, IsErrorBelow}
-use Rattle.bech32_finders.specs.Question.{Explains, IsAnswerTo, IsOnlyListing}
-use Rattle.bech32_finders.proofs.Added.{erasures_more}
-use Rattle.bech32_finders.proofs.Beside.{alone_listed, beside_listed, none_beside}
-use Rattle.bech32_finders.proofs.Lawful.{only_erasures, only_lawful}
-use Rattle.bech32_finders.proofs.OneError.{no_pattern}
-use Rattle.bech32_finders.proofs.Only.{no_erasures, one_listed}
+use Rattle.bech32_lookup.specs.Found.{IsErasedListing, IsErrorBelow}
+use Rattle.bech32_lookup.specs.Question.{Explains, IsAnswerTo, IsOnlyListing}
+use Rattle.bech32_lookup.proofs.Added.{erasures_more}
+use Rattle.bech32_lookup.proofs.Beside.{alone_listed, beside_listed, none_beside}
+use Rattle.bech32_lookup.proofs.Lawful.{only_erasures, only_lawful}
+use Rattle.bech32_lookup.proofs.OneError.{no_pattern}
+use Rattle.bech32_lookup.proofs.Only.{no_erasures, one_listed}
 use Rattle.bech32_correction.specs.Mistyped.{AreInside, HasNoListing, IsListingOf, IsRefusedFor, question_of}
 use Rattle.bech32_correction.proofs.Outcomes.{listing-from_only}
 use Rattle.bech32_correction.proofs.Residues.{residue_not_zero}

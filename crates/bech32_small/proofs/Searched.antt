@@ -20,9 +20,9 @@ use Rattle.bech32_bch.specs.Pattern.{locations}
 use Rattle.bech32_checksum.specs.Code.{bech32m}
 use Rattle.bech32_checksum.specs.Packed.{IsRowOf, digits}
 use Rattle.bech32_checksum.proofs.DigitRows.{coefficient-digits, digit_of-past}
-use Rattle.bech32_finders.proofs.Added.{length-with_some, with_erasures-more}
-use Rattle.bech32_finders.proofs.OneError.{nothing_left}
-use Rattle.bech32_finders.proofs.Remainders.{left_over, remainder_left, same_remainder}
+use Rattle.bech32_lookup.proofs.Added.{length-with_some, with_erasures-more}
+use Rattle.bech32_lookup.proofs.OneError.{nothing_left}
+use Rattle.bech32_lookup.proofs.Remainders.{left_over, remainder_left, same_remainder}
 use Rattle.bech32_small.proofs.Errors.{leaves-scaled, with_first, without_first}
 use Rattle.bech32_small.proofs.Remainders.{Leaves, LeavesErrors, found_at, leaves-from_errors, leaves-rest, leaves-sum, row_of, same_row, single_at}
 

@@ -6,7 +6,7 @@ ghost use Rattle.bech32_bch.specs.Erasures.{with_erasures};
 ghost use Rattle.bech32_bch.specs.Pattern.{HasRemainder};
 ghost use Rattle.bech32_checksum.specs.Code.{bech32m};
 ghost use Rattle.bech32_checksum.specs.Packed.{HasDigits, digits};
-ghost use Rattle.bech32_finders.specs.Found.{IsErasedListing, IsErrorBelow};
+ghost use Rattle.bech32_lookup.specs.Found.{IsErasedListing, IsErrorBelow};
 ghost use Rattle.bech32_gf.specs.Fe32 as fe32;
 ghost use Rattle.bech32_gf.specs.declared.gf32.Fe32.{Fe32 as Element};
 

@@ -33,7 +33,7 @@ use Rattle.bech32_bch.proofs.Counting.{located_outside, outside, outside_located
 use Rattle.bech32_bch.proofs.Patterns.{at_absent, locations_listed, outside_count}
 use Rattle.bech32_bch.proofs.Places.{mem_split, once_fits}
 use Rattle.bech32_bch.proofs.Solved.{once_outside}
-use Rattle.bech32_finders.proofs.Remainders.{left_over}
+use Rattle.bech32_lookup.proofs.Remainders.{left_over}
 use Rattle.bech32_decode.specs.Acceptance.{Accepts, IsAccepted}
 use Rattle.bech32_detect.specs.Distance.{AreSameOrFar, same_element}
 use Rattle.bech32_decode.specs.Text.{IsText}

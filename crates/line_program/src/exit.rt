@@ -6,7 +6,7 @@ ghost use Rattle.std.specs.Process.{exit_status};
 ghost use Rattle.line_program.specs.Ends.{end_line};
 
 use crate::error::Reason;
-use devices::{ByteSink, Watched, write_all};
+use io_traits::{ByteSink, Watched, write_all};
 use std::io;
 use std::process::ExitCode;
 

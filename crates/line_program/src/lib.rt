@@ -1,7 +1,7 @@
 //! What programs that reply to lines share: a run over all lines of an input, the words of a line,
 //! and replies put together. What is said of a line is the program's own ([`Replies`]).
 //!
-//! Below it: `devices`.
+//! Below it: `io_traits`.
 //! Standard: none.
 #![tactic(auto)]
 

@@ -10,7 +10,7 @@ ghost use Rattle.line_program.specs.Output.{IsOutput, IsBeginning, IsAnswered, I
 use crate::error::RunError;
 use crate::output::append;
 use crate::replies::{LONGEST_LINE, REPLY_ROOM, Replies};
-use devices::{ByteSink, ByteSource, Watched, write_all};
+use io_traits::{ByteSink, ByteSource, Watched, write_all};
 use memchr::memchr;
 use std::alloc::{AllocError, Global};
 use std::io;

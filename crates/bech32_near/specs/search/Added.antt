@@ -4,7 +4,7 @@ use Rattle.bech32_bch.specs.Erasures.{has}
 use Rattle.bech32_gf.specs.Fe32 as fe32
 use Rattle.bech32_gf.specs.declared.gf32.Fe32.{Fe32}
 use Rattle.bech32_checksum.specs.Code.{Code}
-use Rattle.bech32_finders.specs.Question.{Question}
+use Rattle.bech32_lookup.specs.Question.{Question}
 use Rattle.bech32_near.specs.search.Nearest.{IsEarlier}
 use Rattle.bech32_near.specs.search.Sketch.{IsTable}
 use Rattle.bech32_near.specs.search.Steps.{AreAdded, HasHighest, HasHighestAt, IsGathered}

@@ -9,7 +9,7 @@ use Rattle.bech32_poly.specs.Pattern.{value_of_pattern_at}
 use Rattle.bech32_checksum.specs.Code.{Code}
 use Rattle.bech32_bch.specs.Listing.{IsListing}
 use Rattle.bech32_bch.specs.Pattern.{HasRemainder, IsPattern, errors_outside}
-use Rattle.bech32_finders.specs.Question.{Question}
+use Rattle.bech32_lookup.specs.Question.{Question}
 
 -- the pattern lies below the window, has the residue as remainder and at most this many errors
 -- outside the erasures, which are no more than the bound

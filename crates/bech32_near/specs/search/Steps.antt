@@ -9,7 +9,7 @@ use Rattle.bech32_bch.specs.Erasures.{AreErasures, with_erasures}
 use Rattle.bech32_bch.specs.Listing.{IsInOrder}
 use Rattle.bech32_bch.specs.Pattern.{HasRemainder, locations}
 use Rattle.bech32_checksum.specs.Code.{Code}
-use Rattle.bech32_finders.specs.Question.{IsAnswerTo, Question}
+use Rattle.bech32_lookup.specs.Question.{IsAnswerTo, Question}
 use Rattle.bech32_near.specs.search.Nearest.{AreRising}
 
 -- the errors with one at a higher location, in the order of a listing: location 0 stays the first

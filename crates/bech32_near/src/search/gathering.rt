@@ -6,7 +6,7 @@ ghost use Rattle.std.specs.List.{AllByRecursion};
 ghost use Rattle.bech32_bch.specs.Erasures.{AreErasures, has};
 ghost use Rattle.bech32_near.specs.search.Added.{AddsGathered, AddsHighest, AddsHighestAt};
 ghost use Rattle.bech32_near.specs.search.Steps.{IsErasedAnswer, IsTried, raised, with_highest};
-ghost use Rattle.bech32_finders.specs.Question.{Question};
+ghost use Rattle.bech32_lookup.specs.Question.{Question};
 ghost use Rattle.bech32_gf.specs.Fe32 as fe32;
 ghost use Rattle.bech32_gf.specs.declared.gf32.Fe32.{Fe32 as Element};
 

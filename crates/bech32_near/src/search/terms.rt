@@ -12,8 +12,8 @@ ghost use Rattle.bech32_near.specs.search.Sketch.{packed_by, sketch, sketch_at};
 
 use crate::search::sketch::{Row, cleared_by, push_row};
 use bech32_checksum::{Checksum, Engine, PackedFe32};
-use bech32_finders::listed_engine;
 use bech32_gf::gf32::Fe32;
+use bech32_lookup::listed_engine;
 use std::alloc::{AllocError, Allocator};
 
 // A sketch is made of this many coefficients: those that a number of 64 bits packs.

@@ -2,7 +2,7 @@ ghost use Rattle.std.specs.Prelude.{ℕ, ◌≤◌, length, take, OnOk, OnErr};
 ghost use Rattle.std.specs.Io.KnownBytes.{Appends};
 
 use crate::tests::compare::{same, same_items};
-use devices::{ByteSink, ByteSource, Watched, write_all};
+use io_traits::{ByteSink, ByteSource, Watched, write_all};
 use std::io;
 use testing_tools::writers::Narrow;
 

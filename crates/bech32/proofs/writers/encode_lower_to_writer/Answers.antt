@@ -1,6 +1,6 @@
 use Rattle.std.proofs.Common.{◌≡◌, ◌∙◌, false, ap, sym, subst, OnOk, rules}
 use Rattle.bech32_bits.specs.Bits.{to_fes}
-use Rattle.devices.specs.Watched.{device_of}
+use Rattle.io_traits.specs.Watched.{device_of}
 use Rattle.bech32_hrp.specs.HrpBytes.{hrp_bytes}
 use Rattle.bech32.specs.Writing.{AppendsText, AppendsBeginning}
 use Rattle.bech32.proofs.Writing.{io_refusal}

@@ -1,5 +1,5 @@
 use Rattle.std.proofs.Common.{◌≡◌, ◌∙◌, [], true, false, length, sym, eqb-true}
-use Rattle.bech32_finders.proofs.OneError.{empty}
+use Rattle.bech32_lookup.proofs.OneError.{empty}
 use Rattle.bech32_correction.proofs.Within.{bounded, none_distinct}
 use Rattle.bech32_correction.proofs.erasures.distinct_below.Goals as goal
 

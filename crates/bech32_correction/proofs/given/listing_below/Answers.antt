@@ -1,7 +1,7 @@
 use Rattle.std.proofs.Common.{rules, ◌≡◌, ◌∙◌, ℕ, List, [], subst, sym, arith}
 use Rattle.std.specs.Prelude.{IfOk}
-use Rattle.bech32_finders.specs.Question.{IsAnswerTo}
-use Rattle.bech32_finders.proofs.OneError.{empty}
+use Rattle.bech32_lookup.specs.Question.{IsAnswerTo}
+use Rattle.bech32_lookup.proofs.OneError.{empty}
 use Rattle.bech32_correction.proofs.given.listing_below.Goals as goal
 
 pub correct_erased-requires : goal.correct_erased-requires

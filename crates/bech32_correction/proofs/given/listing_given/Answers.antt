@@ -1,7 +1,7 @@
 use Rattle.std.proofs.Common.{rules, ◌≡◌, ◌≤◌, ℕ, List, [], true, false, length, subst, ap, arith}
 use Rattle.std.specs.Prelude.{IfOk}
 use Rattle.bech32_bch.specs.Erasures.{with_erasures}
-use Rattle.bech32_finders.specs.Question.{IsAnswerTo}
+use Rattle.bech32_lookup.specs.Question.{IsAnswerTo}
 use Rattle.bech32_correction.specs.Given.{AreWithin}
 use Rattle.bech32_correction.proofs.Within.{none_with, some_with}
 use Rattle.bech32_correction.proofs.given.listing_given.Goals as goal

@@ -1,5 +1,5 @@
 use Rattle.std.proofs.Common.{◌≡◌, ℕ, List, [], ◌∷◌, length, eqb-true, sym, ◌∙◌}
-use Rattle.bech32_finders.proofs.OneError.{empty}
+use Rattle.bech32_lookup.proofs.OneError.{empty}
 use Rattle.bech32_correction.proofs.Outcomes.{found_listing, found_none}
 use Rattle.bech32_correction.proofs.in_place.lookup_listing.Goals as goal
 

@@ -4,7 +4,7 @@ use Rattle.bech32_gf.specs.Fe32.{ops}
 use Rattle.bech32_bch.specs.Detection.{DetectsFour}
 use Rattle.bech32_checksum.proofs.Target.{length-target}
 use Rattle.bech32_near.specs.search.Nearest.{AreNearest}
-use Rattle.bech32_finders.specs.Question.{Question}
+use Rattle.bech32_lookup.specs.Question.{Question}
 use Rattle.bech32_near.proofs.Nearby.{listings-from_outside, listings_returned, one_of}
 use Rattle.bech32_near.proofs.OutOfMemory.{memory_returned}
 use Rattle.bech32_near.proofs.texts.listings_within.Goals as goal

@@ -1,6 +1,6 @@
 use Rattle.std.proofs.Common.{◌≡◌, subst, OnOk, rules}
 use Rattle.std.proofs.lemmas.Result.{on_ok_weaker}
-use Rattle.devices.specs.Watched.{device_of}
+use Rattle.io_traits.specs.Watched.{device_of}
 use Rattle.bech32_hrp.specs.HrpBytes.{hrp_bytes}
 use Rattle.bech32_segwit.specs.Unchecked.{WritesFront}
 use Rattle.bech32_segwit.proofs.Fronts.{front_through}

@@ -1,5 +1,5 @@
 use Rattle.std.proofs.Common.{◌≡◌, subst, OnOk, OnErr, rules}
-use Rattle.devices.specs.Watched.{device_of}
+use Rattle.io_traits.specs.Watched.{device_of}
 use Rattle.bech32_hrp.specs.HrpBytes.{hrp_bytes}
 use Rattle.bech32_segwit.specs.Unchecked.{AppendsFront, AppendsPartOfFront}
 use Rattle.bech32_segwit.proofs.unchecked.front_to_writer.Goals as goal

@@ -8,7 +8,7 @@ use Rattle.bech32_correction.specs.Mistyped.{HasNoListing, IsListingOf, IsRefuse
 use Rattle.bech32_correction.proofs.Outcomes.{part_fits}
 use Rattle.bech32_decode.specs.Reading.{IsReading}
 use Rattle.bech32_decode.specs.Refusals.{HasLengths}
-use Rattle.bech32_finders.specs.Found.{IsErasedListing}
+use Rattle.bech32_lookup.specs.Found.{IsErasedListing}
 use Rattle.bech32_calls.specs.Correct.{IsMending, bound}
 use Rattle.bech32_calls.proofs.Mending.{mended_by_nothing}
 use Rattle.bech32_small.specs.Target.{PacksTarget}

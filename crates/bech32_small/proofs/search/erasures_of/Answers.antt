@@ -2,7 +2,7 @@ use Rattle.std.specs.List.{AllByRecursion}
 use Rattle.std.proofs.Common.{◌≡◌, ◌<◌, [], length, length-set, take, inl, inr, sym, ap, ◌∙◌, subst, arith}
 use Rattle.bech32_bch.specs.Erasures.{with_erasures}
 use Rattle.bech32_bch.proofs.Places.{length_take}
-use Rattle.bech32_finders.proofs.Added.{all_taken}
+use Rattle.bech32_lookup.proofs.Added.{all_taken}
 use Rattle.bech32_small.proofs.Searched.{all_at, all_more, given_again, given_new, put_next, too_many}
 use Rattle.bech32_small.proofs.search.erasures_of.Goals as goal
 

@@ -1,6 +1,6 @@
 use Rattle.std.proofs.Common.{rules, ◌≡◌, ◌<◌, ◌∙◌, [], ℕ, List, length, arith}
 use Rattle.bech32_gf.specs.declared.gf32.Fe32.{Fe32}
-use Rattle.bech32_finders.specs.Question.{Question}
+use Rattle.bech32_lookup.specs.Question.{Question}
 use Rattle.bech32_correction.proofs.correctable.CorrectableError.correction_context_within.Goals as goal
 
 pub new-requires : goal.new-requires

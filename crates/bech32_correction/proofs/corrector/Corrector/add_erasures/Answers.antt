@@ -4,8 +4,8 @@ use Rattle.bech32_gf.specs.declared.gf32.Fe32.{Fe32}
 use Rattle.bech32_poly.specs.FieldVec.{FitsInPlace}
 use Rattle.bech32_bch.specs.Erasures.{AreErasures, with_erasures}
 use Rattle.bech32_bch.specs.Search.{locators}
-use Rattle.bech32_finders.specs.Question.{Question}
-use Rattle.bech32_finders.proofs.Added.{erasures_more}
+use Rattle.bech32_lookup.specs.Question.{Question}
+use Rattle.bech32_lookup.proofs.Added.{erasures_more}
 use Rattle.bech32_correction.proofs.corrector.Corrector.add_erasures.Goals as goal
 
 pub invariant_of-self : goal.invariant_of-self

@@ -1,7 +1,7 @@
 use Rattle.std.specs.List.{AllByRecursion}
 use Rattle.std.specs.Prelude.{◌↔◌, IsTrue}
 use Rattle.std.proofs.Common.{◌<◌, subst}
-use Rattle.bech32_finders.specs.Question.{Question}
+use Rattle.bech32_lookup.specs.Question.{Question}
 use Rattle.bech32_correction.proofs.corrector.Corrector.are_within.Goals as goal
 
 pub returns : goal.returns

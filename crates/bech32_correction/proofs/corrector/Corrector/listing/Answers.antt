@@ -1,6 +1,6 @@
 use Rattle.std.proofs.Common.{rules, subst}
 use Rattle.std.specs.Prelude.{IfOk}
-use Rattle.bech32_finders.specs.Question.{IsAnswerTo, Question}
+use Rattle.bech32_lookup.specs.Question.{IsAnswerTo, Question}
 use Rattle.bech32_correction.proofs.corrector.Corrector.listing.Goals as goal
 
 pub listing_below-requires : goal.listing_below-requires

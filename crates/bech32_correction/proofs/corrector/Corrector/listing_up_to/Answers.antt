@@ -1,6 +1,6 @@
 use Rattle.std.proofs.Common.{rules, subst, arith}
 use Rattle.std.specs.Prelude.{IfOk}
-use Rattle.bech32_finders.specs.Question.{Question}
+use Rattle.bech32_lookup.specs.Question.{Question}
 use Rattle.bech32_correction.specs.Given.{IsAnswerWith, up_to}
 use Rattle.bech32_correction.proofs.corrector.Corrector.listing_up_to.Goals as goal
 

@@ -1,6 +1,6 @@
 use Rattle.std.proofs.Common.{rules, subst}
 use Rattle.std.specs.Prelude.{IfOk}
-use Rattle.bech32_finders.specs.Question.{Question}
+use Rattle.bech32_lookup.specs.Question.{Question}
 use Rattle.bech32_correction.specs.Given.{IsAnswerWith}
 use Rattle.bech32_correction.proofs.corrector.Corrector.listing_with.Goals as goal
 

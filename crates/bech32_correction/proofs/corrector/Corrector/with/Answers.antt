@@ -1,7 +1,7 @@
 use Rattle.std.proofs.Common.{◌≡◌, ◌≤◌, ◌∙◌, ℕ, List, [], true, false, length, ap, subst, arith}
 use Rattle.bech32_bch.specs.Erasures.{with_erasures}
 use Rattle.bech32_bch.specs.Search.{locators}
-use Rattle.bech32_finders.specs.Question.{Question}
+use Rattle.bech32_lookup.specs.Question.{Question}
 use Rattle.bech32_correction.specs.Given.{AreWithin, with_given}
 use Rattle.bech32_correction.proofs.corrector.Corrector.with.Goals as goal
 

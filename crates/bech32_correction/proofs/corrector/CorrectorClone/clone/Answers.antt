@@ -1,7 +1,7 @@
 use Rattle.std.proofs.Common.{◌≡◌, ◌∙◌, length, ap, sym, subst}
 use Rattle.std.proofs.lemmas.Result.{err_from_is_err_and}
 use Rattle.bech32_bch.proofs.Located.{length-locators}
-use Rattle.bech32_finders.specs.Question.{Question}
+use Rattle.bech32_lookup.specs.Question.{Question}
 use Rattle.bech32_poly.specs.FieldVec.{FitsInPlace}
 use Rattle.bech32_correction.proofs.corrector.CorrectorClone.clone.Goals as goal
 

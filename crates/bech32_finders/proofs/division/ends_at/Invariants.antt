@@ -1,8 +1,0 @@
-use Rattle.std.proofs.Common.{◌≡◌, ◌↔◌, ◌<◌, ◌≤◌, ℕ, true}
-use Rattle.bech32_gf.specs.Fe32 as fe32
-use Rattle.bech32_poly.specs.Polynomial.{coefficient}
-use Rattle.bech32_finders.proofs.division.ends_at.Given as goal
-
-abbrev pub invariant-loop-place : goal.invariant-loop-place
-invariant-loop-place l =
-    (l.zero ≡ true) ↔ ((n : ℕ) → l.end ≤ n → n < l.place → coefficient fe32.ops l.list n ≡ fe32.zero)

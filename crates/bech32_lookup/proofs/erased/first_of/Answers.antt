@@ -1,0 +1,22 @@
+use Rattle.std.proofs.Common.{◌<◌, ℕ, length, ◌∙◌, refl, arith}
+use Rattle.std.proofs.lemmas.List.{length-set}
+use Rattle.bech32_gf.specs.Fe32 as fe32
+use Rattle.bech32_gf.specs.laws.Fe32Laws.{is_field}
+use Rattle.bech32_poly.specs.Polynomial.{coefficient}
+use Rattle.bech32_lookup.proofs.Elimination.{one_more_at}
+use Rattle.bech32_lookup.proofs.erased.first_of.Goals as goal
+
+pub loop-place-init : goal.loop-place-init
+loop-place-init c = record { room = refl; read = λ n h. absurd (omega arith) }
+
+pub loop-place-preserved : goal.loop-place-preserved
+loop-place-preserved c =
+    let place : ℕ = c.loop-place.place in
+    let there : place < length c.loop-place.items = omega (arith, c.loop-place.invariant.room, c.requires) in
+    record {
+      room = length-set _ _ _ ∙ c.loop-place.invariant.room;
+      read = one_more_at is_field c.loop-place.items (coefficient fe32.ops c.args.list.now) place c.listed_coefficient.result there c.listed_coefficient.ensures c.loop-place.invariant.read;
+    }
+
+pub returns : goal.returns
+returns c = λ n h. c.loop-place.invariant.read n (omega arith)

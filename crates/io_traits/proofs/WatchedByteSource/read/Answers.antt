@@ -1,0 +1,5 @@
+use Rattle.std.proofs.Common.{rules}
+use Rattle.io_traits.proofs.WatchedByteSource.read.Goals as goal
+
+pub returns : goal.returns
+returns g c = search rules
