@@ -2,7 +2,8 @@
  * The bytes of the library's stack that calls of each function take, beside the size that is stated for it: the least
  * with which these calls do not end in a trap. A function that took more than is stated would trap in these calls.
  *
- * Built over the text of a library (LIBRARY names its file) with stack sizes that a variable holds.
+ * Built over the text of a library (LIBRARY names its file), with -Dstack_NAME=stack_size for each function: a variable
+ * holds the stack sizes.
  */
 #include <setjmp.h>
 #include <stdio.h>
@@ -11,47 +12,6 @@ static jmp_buf back;
 static unsigned stack_size;
 #define MACHINE_TRAP() longjmp(back, 1)
 
-#ifdef OF_CODEX32
-#define stack_codex32_parse stack_size
-#define stack_codex32_propose stack_size
-#define stack_codex32_share stack_size
-#define stack_codex32_encode stack_size
-#define stack_codex32_encode_payload stack_size
-#define stack_codex32_derive stack_size
-#define stack_codex32_split stack_size
-#define stack_codex32_recover stack_size
-#define stack_codex32_propose_long stack_size
-#define stack_codex32_message stack_size
-#define stack_codex32_version stack_size
-#else
-#define stack_bech32_encode stack_size
-#define stack_bech32_decode stack_size
-#define stack_bech32_check stack_size
-#define stack_bech32_fault stack_size
-#define stack_bech32_segwit_encode stack_size
-#define stack_bech32_segwit_decode stack_size
-#define stack_bech32_residue stack_size
-#define stack_bech32_correct stack_size
-#define stack_bech32_nearest stack_size
-#define stack_bech32_near_edits stack_size
-#define stack_bech32_decode_strict stack_size
-#define stack_bech32_decode_elements stack_size
-#define stack_bech32_encode_elements stack_size
-#define stack_bech32_liquid_encode stack_size
-#define stack_bech32_liquid_decode stack_size
-#define stack_bech32_liquid_nearest stack_size
-#define stack_bech32_descriptor_checksum stack_size
-#define stack_bech32_descriptor_check stack_size
-#define stack_bech32_descriptor_mend stack_size
-#define stack_bech32_descriptor_mend_two stack_size
-#define stack_bech32_suggest stack_size
-#define stack_bech32_check_many stack_size
-#define stack_bech32_segwit_decode_many stack_size
-#define stack_bech32_segwit_encode_many stack_size
-#define stack_bech32_validity_of stack_size
-#define stack_bech32_message stack_size
-#define stack_bech32_version stack_size
-#endif
 #include LIBRARY
 
 static ALIGNED(16) u8 lent[65536];
