@@ -14,13 +14,13 @@ ghost use Rattle.bech32_calls.specs.Segwit.{PutsProgram, IsSegwitDecodeFault};
 
 use crate::decode::put_parts;
 use crate::encode::put_in_room;
-use crate::input::{element_of, read, test_part, text_of};
+use crate::input::{element_of, read, test_part};
 use crate::refusal::Refusal;
 use bech32::primitives::decode::SegwitHrpstringError;
 use bech32::primitives::segwit::{MAX_STRING_LENGTH, VERSION_0};
 use bech32::segwit::address_length_of_part;
 use bech32::{Bech32, Bech32m, Fe32};
-use bech32_decode::{AddressData, Reading};
+use bech32_decode::{AddressData, Reading, text_of};
 
 // Puts the text of a version and a program by the checksum of the version.
 fn put_address(part: &[u8], version: Fe32, program: &[u8], text: &mut [u8]) -> usize
