@@ -1,32 +1,17 @@
-//! Reads what a C program gives: texts, human-readable parts, elements.
+//! Reads what a C program gives: human-readable parts, elements.
 
 ghost use Rattle.std.specs.Prelude.{◌≡◌, ◌≤◌, ◌<◌, Some, MatchResult};
 ghost use Rattle.std.specs.Str.{IsUtf8};
 ghost use Rattle.bech32_gf.specs.Fe32.{element};
 ghost use Rattle.bech32_hrp.specs.Hrp.{IsHrp, hrp_refusal};
 ghost use Rattle.bech32_hrp.specs.HrpBytes.{hrp_bytes};
-ghost use Rattle.bech32_calls.specs.Faults.{IsPartFault, IsTextFault};
+ghost use Rattle.bech32_calls.specs.Faults.{IsPartFault};
 
 use crate::refusal::Refusal;
 use bech32::primitives::hrp;
-use bech32::{Checksum, Fe32, Hrp};
-use bech32_decode::{NotText, Reading, text_of};
+use bech32::{Fe32, Hrp};
+use bech32_decode::{NotText, text_of};
 use bech32_hrp::is_part;
-
-/// Reads the text of bytes.
-///
-/// # Errors
-///
-/// Bytes that are not UTF-8; else the first fault of their text.
-#[inline(always)]
-pub fn read<Ck: Checksum>(bytes: &[u8]) -> Result<Reading<'_, Ck>, Refusal>
-    ensures { MatchResult result
-        (λ r. r.text.now ≡ bytes.now)
-        (λ e. IsTextFault bytes.now e) }
-{
-    let reading = Reading::from_bytes(bytes)?;
-    Ok(reading)
-}
 
 /// The human-readable part of bytes.
 ///
