@@ -27,6 +27,6 @@ IsTextFault bytes (Text e) = IsUtf8 bytes × (text_refusal bytes ≡ Some e)
 IsTextFault bytes _ = ⊥
 
 -- the refusal of bytes that are not read
-abbrev pub refusal_of_unread : BytesError → Refusal
-refusal_of_unread NoText = NotUtf8
-refusal_of_unread (Fault e) = Text e
+abbrev pub refusal_of_bytes : BytesError → Refusal
+refusal_of_bytes NoText = NotUtf8
+refusal_of_bytes (Fault e) = Text e

@@ -148,9 +148,9 @@ impl From<SegwitHrpstringError> for Refusal {
 }
 
 impl From<BytesError> for Refusal {
-    ghost use Rattle.bech32_calls.specs.Faults.{refusal_of_unread};
+    ghost use Rattle.bech32_calls.specs.Faults.{refusal_of_bytes};
 
-    ghost from_gives = { λ e r. r ≡ refusal_of_unread e };
+    ghost from_gives = { λ e r. r ≡ refusal_of_bytes e };
 
     fn from(e: BytesError) -> Refusal {
         match e {
