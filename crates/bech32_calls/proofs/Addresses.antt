@@ -181,9 +181,3 @@ refused_address text hrp data_part m n e is few refusal = (IsUtf8-from_text text
 -- why a text is not read is why it is no address
 pub unread_address : (text : List ℕ) (m n : ℕ) (e : UncheckedHrpstringError) → length text ≤ 90 → IsTextFault text (Text e) → IsSegwitDecodeFault text m n (Address (Unchecked e))
 unread_address text m n e few h = (h.0, inr (few, inl (record { error = e; is = refl; refusal = h.1 })))
-
--- the same of bytes that are not UTF-8
-pub other_fault : (text : List ℕ) (m n : ℕ) (e : Refusal) → ((x : UncheckedHrpstringError) → e ≡ Text x → ⊥) → IsTextFault text e → IsSegwitDecodeFault text m n e
-other_fault text m n NotUtf8 other h = h
-other_fault text m n (Text e) other h = absurd (other e refl)
-other_fault text m n _ other h = absurd h

@@ -27,4 +27,5 @@ pub mod Spelled
 pub mod Stands
 pub mod Strangers
 pub mod Suggested
+pub mod Unread
 pub mod Wrong

@@ -3,6 +3,8 @@ use Rattle.std.specs.Prelude.{◌≡◌, ℕ, List, Some}
 use Rattle.std.specs.Str.{IsUtf8}
 use Rattle.bech32_hrp.specs.Hrp.{hrp_refusal}
 use Rattle.bech32_decode.specs.Text.{text_refusal}
+use Rattle.bech32_decode.specs.declared.bytes.BytesError.{BytesError}
+use Rattle.bech32_decode.specs.declared.bytes.BytesError.TheVariants.{NotUtf8 as NoText, Text as Fault}
 use Rattle.bech32_numbers.specs.Refused.{IsNumberBy}
 use Rattle.bech32_calls.specs.Numbers.{number_of}
 use Rattle.bech32_calls.specs.declared.refusal.Refusal.{Refusal}
@@ -23,3 +25,8 @@ abbrev pub IsTextFault : List ℕ → Refusal → Type 0
 IsTextFault bytes NotUtf8 = ¬ (IsUtf8 bytes)
 IsTextFault bytes (Text e) = IsUtf8 bytes × (text_refusal bytes ≡ Some e)
 IsTextFault bytes _ = ⊥
+
+-- the refusal of bytes that are not read
+abbrev pub refusal_of_bytes : BytesError → Refusal
+refusal_of_bytes NoText = NotUtf8
+refusal_of_bytes (Fault e) = Text e

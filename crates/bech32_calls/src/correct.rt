@@ -16,7 +16,6 @@ ghost use Rattle.bech32_calls.specs.Checksums.{ForChecksum, IsFaultBy};
 ghost use Rattle.bech32_calls.specs.Correct.{IsCorrectFault, IsMending, PutsMended, bound};
 
 use crate::checksum::{BECH32, BECH32M};
-use crate::input::read;
 use crate::refusal::Refusal;
 use bech32::{Bech32, Bech32m, Fe32};
 use bech32_correction::{CorrectsInPlace, lookup_listing, mend, search_listing};
@@ -144,7 +143,7 @@ fn corrected_by<Ck: CorrectsInPlace>(
     ensures same { OnErr result ((locations.new ≡ locations.old) × (values.new ≡ values.old)
         × (mended.new ≡ mended.old)) }
 {
-    let reading = read::<Ck>(text)?;
+    let reading = Reading::<Ck>::from_bytes(text)?;
     reading.validate_lengths()?;
     if reading.has_target() {
         return put_correction(&[], text, locations, values, mended);

@@ -12,10 +12,9 @@ ghost use Rattle.bech32_decode.specs.Acceptance.{IsAcceptedByEither};
 ghost use Rattle.bech32_calls.specs.declared.refusal.Refusal.TheVariants.{NoRoom};
 
 use crate::checksum::by_number;
-use crate::input::read;
 use crate::refusal::Refusal;
 use bech32::{Bech32m, Checksum};
-use bech32_decode::{data_bytes_count, put_data_bytes};
+use bech32_decode::{Reading, data_bytes_count, put_data_bytes};
 use bech32_encode::put_at_front;
 
 /// Tests that a human-readable part and what stands beside it, of these lengths, have room in two
@@ -79,7 +78,7 @@ pub fn decoded(text: &[u8], hrp: &mut [u8], bytes: &mut [u8]) -> Result<(usize, 
         (λ e. IsDecodeFault text.now (length hrp.old) (length bytes.old) e) }
     ensures same { OnErr result ((hrp.new ≡ hrp.old) × (bytes.new ≡ bytes.old)) }
 {
-    let reading = read::<Bech32m>(text)?;
+    let reading = Reading::<Bech32m>::from_bytes(text)?;
     reading.validate_either()?;
     put_parts(reading.hrp, reading.characters(), hrp, bytes)
 }
@@ -94,7 +93,7 @@ pub fn checked_by_either(text: &[u8]) -> Result<(), Refusal>
         (λ _. IsAcceptedByEither text.now)
         (λ e. IsReadFault text.now e) }
 {
-    let reading = read::<Bech32m>(text)?;
+    let reading = Reading::<Bech32m>::from_bytes(text)?;
     match reading.validate_either() {
         Ok(()) => Ok(()),
         Err(e) => Err(Refusal::Checksum(e)),
@@ -108,7 +107,7 @@ fn checked<Ck: Checksum>(bytes: &[u8]) -> Result<(usize, usize), Refusal>
         (λ n. IsCheckedAs bytes.now n.0 n.1 Ck.code)
         (λ e. IsCheckFault bytes.now Ck.code e) }
 {
-    let reading = read::<Ck>(bytes)?;
+    let reading = Reading::<Ck>::from_bytes(bytes)?;
     reading.validate()?;
     Ok((reading.hrp.len(), reading.characters().len()))
 }

@@ -7,10 +7,11 @@ ghost use Rattle.bech32_calls.specs.Elements.{IsElementsEncodeFault, element_pla
 
 use crate::checksum::by_number;
 use crate::decode::validate_rooms;
-use crate::input::{part_of, read};
+use crate::input::part_of;
 use crate::refusal::Refusal;
 use bech32::Checksum;
 use bech32::elements::{elements_length, place_above, put_elements, put_text_of_elements};
+use bech32_decode::Reading;
 use bech32_encode::put_at_front;
 
 // Decodes by one checksum.
@@ -25,7 +26,7 @@ fn decoded_elements<Ck: Checksum>(
         (λ e. IsElementsFault text.now (length hrp.old) (length elements.old) Ck.code e) }
     ensures same { OnErr result ((hrp.new ≡ hrp.old) × (elements.new ≡ elements.old)) }
 {
-    let reading = read::<Ck>(text)?;
+    let reading = Reading::<Ck>::from_bytes(text)?;
     reading.validate()?;
     let part = reading.hrp;
     let characters = reading.characters();

@@ -13,7 +13,7 @@ ghost use Rattle.bech32_calls.specs.Place.{IsPlace, HasPlace, IsLastStranger, Is
 ghost use Rattle.bech32_calls.specs.Place.{IsFirstWrong, IsUnfit};
 
 use crate::decode::checked_by;
-use bech32::Fe32;
+use bech32_gf::alphabet::is_data_byte;
 
 // A kind of bytes that may stand at the end of a text.
 #[derive(Clone, Copy)]
@@ -32,7 +32,7 @@ impl Kind {
         ensures { result ≡ is_of self b }
     {
         match self {
-            Kind::Data => Fe32::from_char(char::from(b)).is_ok(),
+            Kind::Data => is_data_byte(b),
             Kind::Continuation => (128..=191).contains(&b),
             Kind::NotSeparator => b != b'1',
         }

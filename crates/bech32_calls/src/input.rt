@@ -1,70 +1,17 @@
-//! Reads what a C program gives: texts, human-readable parts, elements.
+//! Reads what a C program gives: human-readable parts, elements.
 
 ghost use Rattle.std.specs.Prelude.{◌≡◌, ◌≤◌, ◌<◌, Some, MatchResult};
 ghost use Rattle.std.specs.Str.{IsUtf8};
 ghost use Rattle.bech32_gf.specs.Fe32.{element};
 ghost use Rattle.bech32_hrp.specs.Hrp.{IsHrp, hrp_refusal};
 ghost use Rattle.bech32_hrp.specs.HrpBytes.{hrp_bytes};
-ghost use Rattle.bech32_calls.specs.Faults.{IsPartFault, IsTextFault};
+ghost use Rattle.bech32_calls.specs.Faults.{IsPartFault};
 
 use crate::refusal::Refusal;
 use bech32::primitives::hrp;
-use bech32::{Checksum, Fe32, Hrp};
-use bech32_decode::Reading;
+use bech32::{Fe32, Hrp};
+use bech32_decode::{NotText, text_of};
 use bech32_hrp::is_part;
-
-/// Bytes are not UTF-8. It is small, unlike a refusal, so that a text is returned quickly.
-#[derive(Clone, Copy)]
-pub struct NotText;
-
-/// The text of bytes.
-///
-/// # Errors
-///
-/// Bytes that are not UTF-8.
-#[inline]
-pub fn text_of(bytes: &[u8]) -> Result<&str, NotText>
-    ensures { MatchResult result
-        (λ text. (text.now ≡ bytes.now) × IsUtf8 bytes.now)
-        (λ _. ¬ (IsUtf8 bytes.now)) }
-{
-    if bytes.is_ascii() {
-        // ASCII is UTF-8: what the call requires is proved.
-        return Ok(unsafe { str::from_utf8_unchecked(bytes) });
-    }
-    match str::from_utf8(bytes) {
-        Ok(text) => Ok(text),
-        Err(_) => Err(NotText),
-    }
-}
-
-/// Reads the text of bytes.
-///
-/// # Errors
-///
-/// Bytes that are not UTF-8; else the first fault of their text.
-#[inline(always)]
-pub fn read<Ck: Checksum>(bytes: &[u8]) -> Result<Reading<'_, Ck>, Refusal>
-    ensures { MatchResult result
-        (λ r. r.text.now ≡ bytes.now)
-        (λ e. IsTextFault bytes.now e) }
-{
-    match Reading::of(bytes) {
-        Some(reading) => Ok(reading),
-        None => read_in_steps(bytes),
-    }
-}
-
-// The same without the walk, which said nothing. Apart, so that its locals are cleared only there.
-#[inline(always)]
-fn read_in_steps<Ck: Checksum>(bytes: &[u8]) -> Result<Reading<'_, Ck>, Refusal>
-    ensures { MatchResult result
-        (λ r. r.text.now ≡ bytes.now)
-        (λ e. IsTextFault bytes.now e) }
-{
-    let reading = Reading::with_first_fault(text_of(bytes)?)?;
-    Ok(reading)
-}
 
 /// The human-readable part of bytes.
 ///

@@ -9,7 +9,6 @@ ghost use Rattle.bech32_calls.specs.Listing.{ReturnsMemory, IfAllPut, IfNotAllPu
 ghost use Rattle.bech32_calls.specs.NearEdits.{IsEditsFault, IsEditsFaultOrKept, LacksRoomForEdits, PutsEdits, PutsFirstEdits};
 
 use crate::checksum::{BECH32, BECH32M, validate_checksum};
-use crate::input::read;
 use crate::listed::{Listed, Row, give_memory_back, list_rows};
 use crate::refusal::Refusal;
 use bech32::{Bech32, Bech32m, Change, NearEdit};
@@ -25,7 +24,7 @@ fn read_for(checksum: u32, bytes: &[u8]) -> Result<Reading<'_, Bech32m>, Refusal
         (λ e. IsFaultBy checksum (IsEditsFault bytes.now) e) }
 {
     validate_checksum(checksum)?;
-    let reading = read::<Bech32m>(bytes)?;
+    let reading = Reading::<Bech32m>::from_bytes(bytes)?;
     Ok(reading)
 }
 

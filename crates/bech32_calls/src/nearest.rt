@@ -11,7 +11,6 @@ ghost use Rattle.bech32_calls.specs.Listing.{ReturnsMemory, IfAllPut, IfNotAllPu
 ghost use Rattle.bech32_calls.specs.Nearest.{IsNearFaultOrKept, IsRead, PutsFirstNear, PutsNear};
 
 use crate::checksum::{BECH32, BECH32M, validate_checksum};
-use crate::input::read;
 use crate::listed::{Listed, give_memory_back, list_texts};
 use crate::refusal::Refusal;
 use bech32::{Bech32, Bech32m, Mended};
@@ -30,7 +29,7 @@ fn read_either(bytes: &[u8]) -> Result<Reading<'_, Bech32m>, Refusal>
         × HasLengths bech32m (length r.text.now) (length r.data_part.now))
         (λ e. IsResidueFault bytes.now bech32m e × IsResidueFault bytes.now bech32 e) }
 {
-    let reading = read::<Bech32m>(bytes)?;
+    let reading = Reading::<Bech32m>::from_bytes(bytes)?;
     reading.validate_lengths()?;
     Ok(reading)
 }

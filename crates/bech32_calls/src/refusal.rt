@@ -3,13 +3,13 @@
 ghost use Rattle.std.specs.Prelude.{◌≡◌, ◌<◌};
 ghost use Rattle.bech32_calls.specs.Numbers.{number_of};
 
-use crate::input::NotText;
 use bech32::primitives::decode::{
     CheckedHrpstringError, ChecksumError, CodeLengthError, PaddingError, SegwitHrpstringError,
     UncheckedHrpstringError,
 };
 use bech32::primitives::hrp::Error as HrpError;
 use bech32::{EncodeError, segwit};
+use bech32_decode::{BytesError, NotText};
 use bech32_numbers::{
     NO_CORRECTION, address_error_number, checksum_error_number, encode_error_number,
     hrp_error_number, padding_error_number, segwit_encode_error_number, text_error_number,
@@ -144,6 +144,19 @@ impl From<SegwitHrpstringError> for Refusal {
 
     fn from(e: SegwitHrpstringError) -> Refusal {
         Refusal::Address(e)
+    }
+}
+
+impl From<BytesError> for Refusal {
+    ghost use Rattle.bech32_calls.specs.Faults.{refusal_of_bytes};
+
+    ghost from_gives = { λ e r. r ≡ refusal_of_bytes e };
+
+    fn from(e: BytesError) -> Refusal {
+        match e {
+            BytesError::NotUtf8 => Refusal::NotUtf8,
+            BytesError::Text(e) => Refusal::Text(e),
+        }
     }
 }
 

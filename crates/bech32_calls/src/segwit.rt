@@ -4,23 +4,23 @@ ghost use Rattle.std.specs.Prelude.{◌≡◌, ◌≤◌, ◌<◌, ◌∷◌, �
 ghost use Rattle.bech32_gf.specs.Fe32.{value};
 ghost use Rattle.bech32_bits.specs.Bits.{to_fes};
 ghost use Rattle.bech32_checksum.specs.Encoded.{IsEncodedText};
+ghost use Rattle.bech32_decode.specs.Bytes.{IsBytesFault};
 ghost use Rattle.bech32_decode.specs.Segwit.{segwit_code};
 ghost use Rattle.bech32_decode.specs.SegwitParts.{IsReadIn};
 ghost use Rattle.bech32_segwit.specs.SegwitEncoding.{address_length};
 ghost use Rattle.bech32_encode.specs.Buffers.{IsPut};
-ghost use Rattle.bech32_calls.specs.Faults.{IsTextFault};
 ghost use Rattle.bech32_calls.specs.Segwit.{PutsAddress, IsSegwitEncodeFault};
 ghost use Rattle.bech32_calls.specs.Segwit.{PutsProgram, IsSegwitDecodeFault};
 
 use crate::decode::put_parts;
 use crate::encode::put_in_room;
-use crate::input::{element_of, read, test_part, text_of};
+use crate::input::{element_of, test_part};
 use crate::refusal::Refusal;
 use bech32::primitives::decode::SegwitHrpstringError;
 use bech32::primitives::segwit::{MAX_STRING_LENGTH, VERSION_0};
 use bech32::segwit::address_length_of_part;
 use bech32::{Bech32, Bech32m, Fe32};
-use bech32_decode::{AddressData, Reading};
+use bech32_decode::{AddressData, BytesError, Reading, text_of};
 
 // Puts the text of a version and a program by the checksum of the version.
 fn put_address(part: &[u8], version: Fe32, program: &[u8], text: &mut [u8]) -> usize
@@ -77,15 +77,15 @@ fn refusal_of_long(text: &[u8]) -> Refusal
     }
 }
 
-// Why a text of at most 90 characters that is not read is no address.
+// Why bytes, at most 90, that are not read are no address.
 #[inline(always)]
-fn refusal_of_unread(refusal: Refusal) -> Refusal
-    ensures { (text : List ℕ) → length text ≤ 90 → IsTextFault text refusal
+fn refusal_of_unread(error: BytesError) -> Refusal
+    ensures { (text : List ℕ) → length text ≤ 90 → IsBytesFault text error
         → (m n : ℕ) → IsSegwitDecodeFault text m n result }
 {
-    match refusal {
-        Refusal::Text(e) => Refusal::Address(SegwitHrpstringError::Unchecked(e)),
-        refusal => refusal,
+    match error {
+        BytesError::Text(e) => Refusal::Address(SegwitHrpstringError::Unchecked(e)),
+        BytesError::NotUtf8 => Refusal::NotUtf8,
     }
 }
 
@@ -99,14 +99,14 @@ fn read_short(text: &[u8]) -> Result<Reading<'_, Bech32m>, Refusal>
     if text.len() > MAX_STRING_LENGTH {
         return Err(refusal_of_long(text));
     }
-    match read::<Bech32m>(text) {
+    match Reading::<Bech32m>::from_bytes(text) {
         Ok(reading) => Ok(Reading {
             text,
             hrp: reading.hrp,
             data_part: reading.data_part,
             residue: reading.residue,
         }),
-        Err(refusal) => Err(refusal_of_unread(refusal)),
+        Err(error) => Err(refusal_of_unread(error)),
     }
 }
 

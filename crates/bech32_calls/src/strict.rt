@@ -6,9 +6,9 @@ ghost use Rattle.bech32_calls.specs.Strict.{PutsStrict, IsStrictFault};
 
 use crate::checksum::by_number;
 use crate::decode::put_parts;
-use crate::input::read;
 use crate::refusal::Refusal;
 use bech32::Checksum;
+use bech32_decode::Reading;
 
 // The same by one checksum.
 fn decoded_strict<Ck: Checksum>(
@@ -22,7 +22,7 @@ fn decoded_strict<Ck: Checksum>(
         (λ e. IsStrictFault text.now (length hrp.old) (length bytes.old) Ck.code e) }
     ensures same { OnErr result ((hrp.new ≡ hrp.old) × (bytes.new ≡ bytes.old)) }
 {
-    let reading = read::<Ck>(text)?;
+    let reading = Reading::<Ck>::from_bytes(text)?;
     reading.validate()?;
     let found = reading.checked();
     found.validate_segwit_padding()?;

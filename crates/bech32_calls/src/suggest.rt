@@ -6,9 +6,10 @@ ghost use Rattle.caller_memory.specs.Memory.{IsKept};
 ghost use Rattle.bech32_calls.specs.Listing.{ReturnsMemory, IfAllPut, IfNotAllPut};
 ghost use Rattle.bech32_calls.specs.Suggest.{IsSuggestFaultOrKept, IsTyped, LacksRoomForSuggestions, PutsFirstSuggestions, PutsSuggestions};
 
-use crate::input::{part_of, text_of};
+use crate::input::part_of;
 use crate::listed::{Listed, Row, give_memory_back, list_rows};
 use crate::refusal::Refusal;
+use bech32_decode::text_of;
 use bech32_suggest::{MAX_TYPED_LENGTH, Mending, Suggestion, read_typed, suggest_for_reading};
 use caller_memory::{Lent, Memory};
 use std::alloc::Allocator;

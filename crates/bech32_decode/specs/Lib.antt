@@ -1,5 +1,6 @@
 pub mod Acceptance
 pub mod BeforeChecksum
+pub mod Bytes
 pub mod Cases
 pub mod Checked
 pub mod Letters

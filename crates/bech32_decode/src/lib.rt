@@ -9,6 +9,7 @@
 mod address;
 mod address_data;
 mod byte_reader;
+mod bytes;
 mod characters;
 mod checked;
 mod data_bytes;
@@ -33,6 +34,7 @@ pub use bech32_refusals::{
     segwit,
 };
 pub use byte_reader::ByteIter;
+pub use bytes::{BytesError, NotText, text_of};
 pub use checked::CheckedHrpstring;
 pub use data_bytes::{data_bytes_count, put_data_bytes};
 pub use either::validate_either;

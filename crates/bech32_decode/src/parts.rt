@@ -6,26 +6,52 @@ ghost use Rattle.bech32_gf.specs.Alphabet.{is_data, is_of_alphabet};
 ghost use Rattle.bech32_hrp.specs.Hrp.{IsHrp, hrp_refusal, is_mixed_case};
 ghost use Rattle.bech32_decode.specs.Text.{IsText, invalid_character, split_at_last, text_refusal};
 
-use bech32_hrp as hrp;
+use bech32_gf::alphabet::is_data_byte;
+use bech32_hrp::{self as hrp, Hrp, cases_of};
 use bech32_refusals::{CharError, UncheckedHrpstringError};
 
+/// Why a text is no human-readable part, if it is none.
+pub(crate) fn parse_fault(front: &str) -> Option<hrp::Error>
+    ensures { MatchOption result (IsHrp front.now) (λ e. hrp_refusal front.now ≡ Some e) }
+{
+    match Hrp::parse(front) {
+        Ok(_) => None,
+        Err(e) => Some(e),
+    }
+}
+
 /// How the characters of a text are tested: quickly, or so that nothing else can be told of them.
+/// The bodies here are the shortest: a loop each, without a table.
 pub trait CharacterTests {
     /// Where the bytes at the end of a text begin that are of the alphabet.
     fn data_start(bytes: &[u8]) -> usize
         ensures bound { result ≤ length bytes.now }
         ensures data { is_data (drop result bytes.now) ≡ true }
         ensures before { 0 < result
-            → is_of_alphabet (slice_index bytes.now (result - 1)) ≡ false };
+            → is_of_alphabet (slice_index bytes.now (result - 1)) ≡ false }
+    {
+        let mut start = bytes.len();
+        while start > 0 && is_data_byte(bytes[start - 1]) {
+            start -= 1;
+        }
+        start
+    }
 
     /// Whether letters of both cases stand in a text.
     fn has_both_cases(bytes: &[u8]) -> bool
-        ensures { result ≡ is_mixed_case bytes.now };
+        ensures { result ≡ is_mixed_case bytes.now }
+    {
+        let cases = cases_of(bytes);
+        cases.lower && cases.upper
+    }
 
     /// Why a text without letters of both cases is no human-readable part, if it is none.
     fn part_fault(front: &str) -> Option<hrp::Error>
         requires { is_mixed_case front.now ≡ false }
-        ensures { MatchOption result (IsHrp front.now) (λ e. hrp_refusal front.now ≡ Some e) };
+        ensures { MatchOption result (IsHrp front.now) (λ e. hrp_refusal front.now ≡ Some e) }
+    {
+        parse_fault(front)
+    }
 }
 
 // The refusal of a text by a character, which is not a surrogate.

@@ -14,6 +14,7 @@ ghost use Rattle.bech32_checksum.specs.TextPolynomial.{text_polynomial};
 ghost use Rattle.bech32_decode.specs.Acceptance.{IsAccepted};
 ghost use Rattle.bech32_decode.specs.Reading.{IsReading};
 ghost use Rattle.bech32_decode.specs.BeforeChecksum.{IsBeforeChecksum};
+ghost use Rattle.bech32_decode.specs.Bytes.{IsBytesFault};
 ghost use Rattle.bech32_decode.specs.Parts.{checked_data, checked_length, checked_part};
 ghost use Rattle.bech32_decode.specs.Refusals.{IsChecksumRefusal, IsRefusedByBoth};
 ghost use Rattle.bech32_decode.specs.Segwit.{IsAddressRefusal, IsVersioned, segwit_code};
@@ -22,11 +23,11 @@ ghost use Rattle.bech32_decode.specs.Text.{IsInGrammar, IsRefusedAsText};
 ghost use Rattle.bech32_gf.specs.Alphabet.{is_data};
 
 use crate::address_data::{AddressData, data_of_version, validate_sizes};
+use crate::bytes::{BytesError, parts_of_bytes};
 use crate::checked::CheckedHrpstring;
 use crate::eights::{is_stranger, walk};
 use crate::part_cases::PART_CASES;
 use crate::residue::residue_of;
-use crate::unchecked::parts_in;
 use crate::validation::{validate_lengths, validate_residue};
 use crate::version::first_version;
 use bech32_checksum::{Bech32, Bech32m, Checksum, Engine, PackedFe32};
@@ -114,7 +115,8 @@ fn is_walkable(text: &[u8]) -> bool
 }
 
 impl<'s, Ck: Checksum> Reading<'s, Ck> {
-    /// Reads a text, of any length: in one walk, as [`Self::of`], where the walk can read it.
+    /// Reads a text, of any length: in one walk, as [`Self::in_one_walk`], where the walk can read
+    /// it.
     ///
     /// # Errors
     ///
@@ -125,28 +127,42 @@ impl<'s, Ck: Checksum> Reading<'s, Ck> {
         ensures refused { IsRefusedAsText text.now result }
         ensures accepts { IsOk result ↔ IsInGrammar text.now }
     {
-        match Self::of(text.as_bytes()) {
-            Some(reading) => Ok(reading),
-            None => Self::with_first_fault(text),
+        match Self::from_bytes(text.as_bytes()) {
+            Ok(reading) => Ok(reading),
+            Err(BytesError::Text(e)) => Err(e),
+            Err(BytesError::NotUtf8) => unreachable!(),
         }
     }
 
-    /// Reads as [`Self::new`] does, and does not try the walk: first the parts, and of these the
-    /// remainder.
+    /// Reads the text of bytes, as [`Self::new`].
     ///
     /// # Errors
     ///
-    /// Those of [`Self::new`].
-    // In line, and each step out of line: what a text is refused with is moved once.
+    /// Bytes that are not UTF-8; otherwise the first fault of their text.
     #[inline(always)]
-    pub fn with_first_fault(text: &'s str) -> Result<Self, UncheckedHrpstringError>
-        ensures value { IfOk result (λ r. r.text.now ≡ text.now) }
-        ensures refused { IsRefusedAsText text.now result }
-        ensures accepts { IsOk result ↔ IsInGrammar text.now }
+    pub fn from_bytes(bytes: &'s [u8]) -> Result<Self, BytesError>
+        ensures { MatchResult result
+            (λ r. r.text.now ≡ bytes.now)
+            (λ e. IsBytesFault bytes.now e) }
     {
-        let (hrp, data_part) = parts_in(text)?;
+        match Self::in_one_walk(bytes) {
+            Some(reading) => Ok(reading),
+            None => Self::with_first_fault(bytes),
+        }
+    }
+
+    // Reads without the walk, which said nothing: first the parts, and of these the remainder.
+    // In line, and each step out of line: what a text is refused with is moved once. Apart from the
+    // walk, so that its locals are cleared only there.
+    #[inline(always)]
+    fn with_first_fault(bytes: &'s [u8]) -> Result<Self, BytesError>
+        ensures { MatchResult result
+            (λ r. r.text.now ≡ bytes.now)
+            (λ e. IsBytesFault bytes.now e) }
+    {
+        let (hrp, data_part) = parts_of_bytes(bytes)?;
         Ok(Reading {
-            text: text.as_bytes(),
+            text: bytes,
             hrp,
             data_part,
             residue: residue_of::<Ck>(hrp, data_part),
@@ -156,7 +172,7 @@ impl<'s, Ck: Checksum> Reading<'s, Ck> {
     /// Reads a text of at most 1,023 characters in one walk. Of a text with a fault of the grammar,
     /// or with more than one `1`, it says nothing.
     #[inline(always)]
-    pub fn of(text: &'s [u8]) -> Option<Self>
+    pub fn in_one_walk(text: &'s [u8]) -> Option<Self>
         ensures { IfSome result (λ r. r.text.now ≡ text.now) }
     {
         if !is_walkable(text) {

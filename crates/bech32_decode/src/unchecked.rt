@@ -32,7 +32,7 @@ pub struct UncheckedHrpstring<'s> {
 // the parts is not. Most texts are walked over.
 #[cold]
 #[inline(never)]
-pub(crate) fn parts_in(s: &str) -> Result<(&[u8], &[u8]), UncheckedHrpstringError>
+fn parts_in(s: &str) -> Result<(&[u8], &[u8]), UncheckedHrpstringError>
     ensures { MatchResult result
         (λ p. IsText s.now p.0.now p.1.now)
         (λ e. text_refusal s.now ≡ Some e) }

@@ -8,8 +8,9 @@ ghost use Rattle.bech32_more_calls.specs.confidential.Address.{IsDecodedAs, IsLi
 use crate::confidential::refusal::Refusal;
 use bech32::Fe32;
 use bech32_calls::decode::validate_rooms;
-use bech32_calls::input::{element_of, test_part, text_of};
+use bech32_calls::input::{element_of, test_part};
 use bech32_calls::refusal::Refusal as Other;
+use bech32_decode::text_of;
 use bech32_encode::put_at_front;
 use liquid::{Address, address_length, decode, put_address, validate};
 

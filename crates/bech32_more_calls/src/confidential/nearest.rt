@@ -15,7 +15,6 @@ ghost use Rattle.bech32_more_calls.specs.confidential.Nearest.{IsLiquidAsked, Is
 
 use bech32::Mended;
 use bech32_bch::{ShortVec, contains};
-use bech32_calls::input::read;
 use bech32_calls::listed::{Listed, give_memory_back, list_texts};
 use bech32_calls::refusal::Refusal;
 use bech32_correction::NoMemory;
@@ -91,7 +90,7 @@ fn read_to_mend(bytes: &[u8]) -> Result<Reading<'_, Blech32>, Refusal>
         × HasLengths blech32_code (length r.text.now) (length r.data_part.now))
         (λ e. IsResidueFault bytes.now blech32_code e) }
 {
-    let reading = read::<Blech32>(bytes)?;
+    let reading = Reading::<Blech32>::from_bytes(bytes)?;
     reading.validate_lengths()?;
     Ok(reading)
 }

@@ -55,7 +55,8 @@ pub fn part_fault(front: &str) -> Option<hrp::Error>
     character_fault(front)
 }
 
-// The steady tests: nothing can be told but what they return.
+// The steady tests: nothing can be told but what they return. The bodies of the trait do not serve
+// here: they branch on characters, and stop where they know the answer.
 enum Steady {}
 
 impl CharacterTests for Steady {

@@ -71,7 +71,7 @@ fn of_reading(
 // What is looked up for a text that one walk reads and Bech32 refuses.
 fn of_text(alloc: Global, text: &str, list: &str) -> Result<String, AllocError> {
     let erasures = numbers(alloc, list)?;
-    match Reading::<Bech32>::of(text.as_bytes()) {
+    match Reading::<Bech32>::in_one_walk(text.as_bytes()) {
         Some(reading) => of_reading(alloc, &reading, &erasures),
         None => no_row(alloc),
     }

@@ -13,7 +13,7 @@ fn word_of(is_accepted: bool) -> &'static str {
 
 // What one walk says of a text.
 fn by_walk<Ck: Checksum>(text: &str) -> &'static str {
-    match Reading::<Ck>::of(text.as_bytes()) {
+    match Reading::<Ck>::in_one_walk(text.as_bytes()) {
         Some(reading) => word_of(reading.validate().is_ok()),
         None => "nothing",
     }
@@ -40,7 +40,7 @@ fn shown<Ck: Checksum>(alloc: Global, text: &str) -> Result<String, AllocError> 
 
 // The version of an address that one walk reads, and how many characters its program has.
 fn address(alloc: Global, text: &str) -> Result<String, AllocError> {
-    let Some(reading) = Reading::<Bech32m>::of(text.as_bytes()) else {
+    let Some(reading) = Reading::<Bech32m>::in_one_walk(text.as_bytes()) else {
         return String::from_str(alloc, "nothing");
     };
     match reading.address() {

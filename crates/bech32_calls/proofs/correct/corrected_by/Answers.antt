@@ -1,14 +1,16 @@
 use Rattle.std.proofs.Common.{sym, length}
 use Rattle.std.proofs.lemmas.Result.{err_from_is_err_and}
 use Rattle.bech32_calls.specs.declared.refusal.Refusal.TheVariants.{Checksum}
+use Rattle.bech32_calls.specs.Faults.{refusal_of_bytes}
 use Rattle.bech32_calls.proofs.Mending.{mended_by_listing, mended_by_nothing, no_listing_there, text_fault_put, unread-from_lengths, unread_put}
+use Rattle.bech32_calls.proofs.Unread.{unread}
 use Rattle.bech32_calls.proofs.correct.corrected_by.Goals as goal
 
 pub returns-in_err-reading-clause-refused : goal.returns-in_err-reading-clause-refused
 returns-in_err-reading-clause-refused g c =
     let p = err_from_is_err_and c.from_residual.result c.from_residual.ensures.1 in
     rw p.1 (rw p.2 (text_fault_put c.args.text.now c.args.erasures.now (length c.args.locations.now) (length c.args.values.now) (length c.args.mended.now)
-    c.in_err-reading.field-0.0 g.Ck.Checksum.code c.in_err-reading.ensures))
+    (refusal_of_bytes c.in_err-reading.field-0.0) g.Ck.Checksum.code (unread c.args.text.now c.in_err-reading.field-0.0 c.in_err-reading.ensures)))
 
 pub returns-in_err-validate_lengths-clause-refused : goal.returns-in_err-validate_lengths-clause-refused
 returns-in_err-validate_lengths-clause-refused g c =

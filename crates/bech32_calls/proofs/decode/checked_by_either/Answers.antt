@@ -2,13 +2,15 @@ use Rattle.std.proofs.Common.{inl, inr, ⊎_elim}
 use Rattle.std.proofs.lemmas.Result.{err_from_is_err_and}
 use Rattle.bech32_checksum.specs.Code.{bech32, bech32m}
 use Rattle.bech32_decode.specs.Acceptance.{IsAccepted, IsAcceptedByEither}
+use Rattle.bech32_calls.specs.Faults.{refusal_of_bytes}
 use Rattle.bech32_calls.proofs.Decoding.{refused_either, unread_read}
+use Rattle.bech32_calls.proofs.Unread.{unread}
 use Rattle.bech32_calls.proofs.decode.checked_by_either.Goals as goal
 
 pub returns-in_err-reading : goal.returns-in_err-reading
 returns-in_err-reading c =
     let p = err_from_is_err_and c.from_residual.result c.from_residual.ensures.1 in
-    rw p.1 (rw p.2 (unread_read c.args.text.now c.in_err-reading.field-0.0 c.in_err-reading.ensures))
+    rw p.1 (rw p.2 (unread_read c.args.text.now (refusal_of_bytes c.in_err-reading.field-0.0) (unread c.args.text.now c.in_err-reading.field-0.0 c.in_err-reading.ensures)))
 
 pub returns-in-Ok : goal.returns-in-Ok
 returns-in-Ok c =

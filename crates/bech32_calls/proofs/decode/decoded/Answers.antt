@@ -2,13 +2,15 @@ use Rattle.std.proofs.Common.{length}
 use Rattle.std.proofs.lemmas.Result.{err_from_is_err_and}
 use Rattle.bech32_calls.specs.Decode.{IsReadFault}
 use Rattle.bech32_calls.specs.declared.refusal.Refusal.TheVariants.{Checksum}
+use Rattle.bech32_calls.specs.Faults.{refusal_of_bytes}
 use Rattle.bech32_calls.proofs.Decoding.{decoded_lacks, puts_decoded, refused_either, unread_decode}
+use Rattle.bech32_calls.proofs.Unread.{unread}
 use Rattle.bech32_calls.proofs.decode.decoded.Goals as goal
 
 pub returns-in_err-reading-clause-refused : goal.returns-in_err-reading-clause-refused
 returns-in_err-reading-clause-refused c =
     let p = err_from_is_err_and c.from_residual.result c.from_residual.ensures.1 in
-    rw p.1 (rw p.2 (unread_decode c.args.text.now (length c.args.hrp.now) (length c.args.bytes.now) c.in_err-reading.field-0.0 c.in_err-reading.ensures))
+    rw p.1 (rw p.2 (unread_decode c.args.text.now (length c.args.hrp.now) (length c.args.bytes.now) (refusal_of_bytes c.in_err-reading.field-0.0) (unread c.args.text.now c.in_err-reading.field-0.0 c.in_err-reading.ensures)))
 
 pub returns-in_err-validate_either-clause-refused : goal.returns-in_err-validate_either-clause-refused
 returns-in_err-validate_either-clause-refused c =

@@ -2,13 +2,15 @@ use Rattle.std.specs.Prelude.{Result, Ok, Err}
 use Rattle.std.proofs.Common.{◌≤◌, ℕ, length}
 use Rattle.std.proofs.lemmas.Result.{err_from_is_err_and}
 use Rattle.bech32_calls.specs.declared.refusal.Refusal.{Refusal}
+use Rattle.bech32_calls.specs.Faults.{refusal_of_bytes}
 use Rattle.bech32_calls.proofs.InElements.{elements_lacks, puts_elements, refused_elements, unread_elements, values_put}
+use Rattle.bech32_calls.proofs.Unread.{unread}
 use Rattle.bech32_calls.proofs.elements.decoded_elements.Goals as goal
 
 pub returns-in_err-reading-clause-refused : goal.returns-in_err-reading-clause-refused
 returns-in_err-reading-clause-refused g c =
     let p = err_from_is_err_and c.from_residual.result c.from_residual.ensures.1 in
-    rw p.1 (rw p.2 (unread_elements c.args.text.now (length c.args.hrp.now) (length c.args.elements.now) g.Ck.Checksum.code c.in_err-reading.field-0.0 c.in_err-reading.ensures))
+    rw p.1 (rw p.2 (unread_elements c.args.text.now (length c.args.hrp.now) (length c.args.elements.now) g.Ck.Checksum.code (refusal_of_bytes c.in_err-reading.field-0.0) (unread c.args.text.now c.in_err-reading.field-0.0 c.in_err-reading.ensures)))
 
 pub returns-in_err-validate-clause-refused : goal.returns-in_err-validate-clause-refused
 returns-in_err-validate-clause-refused g c =

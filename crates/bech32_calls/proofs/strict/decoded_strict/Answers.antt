@@ -3,13 +3,15 @@ use Rattle.std.proofs.lemmas.Result.{err_from_is_err_and}
 use Rattle.bech32_gf.specs.Fe32.{elements_of}
 use Rattle.bech32_decode.specs.BeforeChecksum.{IsBeforeChecksum}
 use Rattle.bech32_decode.specs.SegwitPadding.{IsPadded}
+use Rattle.bech32_calls.specs.Faults.{refusal_of_bytes}
 use Rattle.bech32_calls.proofs.OneSpelling.{puts_strict, refused_strict, strict_lacks, unpadded_strict, unread_strict}
+use Rattle.bech32_calls.proofs.Unread.{unread}
 use Rattle.bech32_calls.proofs.strict.decoded_strict.Goals as goal
 
 pub returns-in_err-reading-clause-refused : goal.returns-in_err-reading-clause-refused
 returns-in_err-reading-clause-refused g c =
     let p = err_from_is_err_and c.from_residual.result c.from_residual.ensures.1 in
-    rw p.1 (rw p.2 (unread_strict c.args.text.now (length c.args.hrp.now) (length c.args.bytes.now) g.Ck.Checksum.code c.in_err-reading.field-0.0 c.in_err-reading.ensures))
+    rw p.1 (rw p.2 (unread_strict c.args.text.now (length c.args.hrp.now) (length c.args.bytes.now) g.Ck.Checksum.code (refusal_of_bytes c.in_err-reading.field-0.0) (unread c.args.text.now c.in_err-reading.field-0.0 c.in_err-reading.ensures)))
 
 pub returns-in_err-validate-clause-refused : goal.returns-in_err-validate-clause-refused
 returns-in_err-validate-clause-refused g c =

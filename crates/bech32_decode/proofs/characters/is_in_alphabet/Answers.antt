@@ -1,12 +1,11 @@
-use Rattle.std.proofs.Common.{◌≡◌, ℕ, ◌<◌, eqb, get_or, refl, rules}
-use Rattle.std.proofs.lemmas.Bool.{agree_below_at}
-use Rattle.bech32_gf.specs.Alphabet.{is_of_alphabet}
-use Rattle.bech32_decode.specs.declared.characters.TheConstants.{ALPHABET}
+use Rattle.std.proofs.Common.{◌≡◌, ◌↔◌, Bool, true, false, not, refl}
 use Rattle.bech32_decode.proofs.characters.is_in_alphabet.Goals as goal
 
-bytes : (b : ℕ) → b < 256 → eqb (get_or ALPHABET b 0) 1 ≡ is_of_alphabet b
-unfolding is_of_alphabet
-bytes b l = agree_below_at (λ b. eqb (get_or ALPHABET b 0) 1) is_of_alphabet 256 b refl l
+other : (stranger inside : Bool) → stranger ≡ true ↔ inside ≡ false → not stranger ≡ inside
+other true true h = h.0 refl
+other true false h = refl
+other false true h = refl
+other false false h = h.1 refl
 
 pub returns : goal.returns
-returns c = bytes c.args.b (search rules)
+returns c = other c.is_stranger.result _ c.is_stranger.ensures

@@ -3,11 +3,10 @@ use Rattle.bech32_decode.specs.Text.{IsText, IsInGrammar}
 use Rattle.bech32_decode.proofs.Grammar.{text_refusal-none}
 use Rattle.bech32_decode.proofs.reading.Reading.new.Goals as goal
 
-pub returns-in-Some : goal.returns-in-Some
-returns-in-Some g c =
-    let r = c.in-Some.reading in
+pub returns-in-Ok : goal.returns-in-Ok
+returns-in-Ok g c =
+    let r = c.in-Ok.reading in
     let text = c.args.text.now in
-    let read : r.text.now ≡ c.as_bytes.result.now = rw c.in-Some.is at c.of.ensures in
-    let same : r.text.now ≡ text = read ∙ c.as_bytes.ensures.value in
+    let same : r.text.now ≡ text = c.in-Ok.ensures ∙ c.as_bytes.ensures.value in
     let grammar : IsInGrammar text = (r.hrp.now, r.data_part.now, subst (λ (t : List ℕ). IsText t r.hrp.now r.data_part.now) same r.is_reading.grammar) in
     record { value = same; refused = text_refusal-none text c.utf8.text grammar; accepts = (λ _. grammar, λ _. refl) }
