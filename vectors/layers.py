@@ -292,7 +292,7 @@ NO_DATA = "no data found after removing the checksum"
 
 
 def version_fault(version):
-    return f"invalid segwit witness version: {version} (bech32 character: '{LETTER[version]}')" if version > 16 else None
+    return f"invalid segwit witness version: {version} (bech32 character: '{LETTER[version]}')" if version > model.MAX_VERSION else None
 
 
 def padding_fault(elements):
@@ -316,8 +316,8 @@ def address_rules(length, data):
     elements = elements_of(data)
     if not elements:
         return None, NO_DATA
-    if length > 90:
-        return None, f"encoded length {length} exceeds spec limit 90 chars"
+    if length > model.MAX_ADDRESS:
+        return None, f"encoded length {length} exceeds spec limit {model.MAX_ADDRESS} chars"
     version, rest = elements[0], elements[1:]
     program = model.to_bytes(rest)[0]
     if version_fault(version):
@@ -336,8 +336,8 @@ def address_text(hrp, found):
 
 def address(text, old):
     length = len(text.encode())
-    if not old and length > 90:
-        return f"encoded length {length} exceeds spec limit 90 chars"
+    if not old and length > model.MAX_ADDRESS:
+        return f"encoded length {length} exceeds spec limit {model.MAX_ADDRESS} chars"
     found, fault = grammar(text)
     if fault:
         return f"parsing unchecked hrpstring failed: {fault}"
@@ -578,7 +578,7 @@ def fine(fault):
 
 
 def shown_version(data):
-    return data[0].lower() if data and ALPHABET.index(data[0].lower()) <= 16 else "-"
+    return data[0].lower() if data and ALPHABET.index(data[0].lower()) <= model.MAX_VERSION else "-"
 
 
 def read(text):
@@ -638,11 +638,11 @@ def residues(first, a, second, b):
 
 def program(length):
     said = [f"{LETTER[v]} {str(length_fault(v, length) is None).lower()}|{fine(length_fault(v, length))}" for v in (0, 1)]
-    return "|".join([*said, "90"])
+    return "|".join([*said, str(model.MAX_ADDRESS)])
 
 
 def version(x):
-    return f"{str(x <= 16).lower()}|{fine(version_fault(x))}"
+    return f"{str(x <= model.MAX_VERSION).lower()}|{fine(version_fault(x))}"
 
 
 def checksum_behind(code, coefficients):
@@ -695,7 +695,7 @@ SENTENCES = {
     "NotPowers": "the first root of the longest series is no power of the base|NotPowers",
     "Memory": "out of memory|Memory",
     "NoMemory": "out of memory|Memory",
-    "CodeLength": "encoded length 91 exceeds maximum (code length) 1023|encoded length 91 exceeds maximum (code length) 90",
+    "CodeLength": f"encoded length 91 exceeds maximum (code length) 1023|encoded length 91 exceeds maximum (code length) {model.MAX_ADDRESS}",
 }
 
 

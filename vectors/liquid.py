@@ -19,14 +19,14 @@ from model import ALPHABET, Code, Refusal  # noqa: E402
 
 # The generator of Blech32, as Elements has it: its coefficients below the leading one, five bits each; the target is 1.
 GENERATOR = 0x7D52FBA40BD886
-BLECH32 = Code([GENERATOR >> 5 * i & 31 for i in range(11, -1, -1)], [0] * 11 + [1], 1023, 6)
+BLECH32 = Code([GENERATOR >> 5 * i & 31 for i in range(11, -1, -1)], [0] * 11 + [1], model.MAX_TEXT, 6)
 DEGREE = 12
 
 
 # --- addresses (Elements, src/key_io.cpp) ---
 
 def test_version(version):
-    if version > 16:
+    if version > model.MAX_VERSION:
         raise Refusal(43)
     if version != 0:
         raise Refusal(70)
@@ -54,7 +54,7 @@ def decode(text):
 
 
 def encode(hrp, version, key, program):
-    if version > 16:
+    if version > model.MAX_VERSION:
         raise Refusal(52)
     if version != 0:
         raise Refusal(70)

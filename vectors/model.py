@@ -11,6 +11,11 @@ nothing is shared with the library. Polynomials are lists of coefficients, the h
 from collections import namedtuple
 from itertools import product as choices
 
+# The most characters of a text by Bech32, by a long checksum, of a human-readable part (BIP-173, Bech32) and of an address.
+MAX_TEXT, MAX_LONG_TEXT, MAX_PART, MAX_ADDRESS = 1023, 7089, 83, 90
+# The highest witness version, and the lengths of its program (BIP-173, Segwit address format; BIP-141, Witness program).
+MAX_VERSION, MIN_PROGRAM, MAX_PROGRAM, PROGRAMS_OF_VERSION_0 = 16, 2, 40, (20, 32)
+
 # The elements of the field of 32, by the characters that stand for 0 to 31 (BIP-173, Bech32).
 ALPHABET = "qpzry9x8gf2tvdw0s3jn54khce6mua7l"
 VALUE = {letter: value for value, letter in enumerate(ALPHABET)}
@@ -48,14 +53,14 @@ PRODUCTS = [[product(a, b) for b in range(32)] for a in range(32)]
 # and how far apart accepted texts are promised to lie, less one (BIP-173, Checksum; BIP-350; BIP-93).
 Code = namedtuple("Code", "generator target length bound")
 
-BECH32 = Code([29, 22, 20, 21, 29, 18], [0, 0, 0, 0, 0, 1], 1023, 3)
-BECH32M = Code(BECH32.generator, [0x2BC830A3 >> 5 * i & 31 for i in range(5, -1, -1)], 1023, 3)
+BECH32 = Code([29, 22, 20, 21, 29, 18], [0, 0, 0, 0, 0, 1], MAX_TEXT, 3)
+BECH32M = Code(BECH32.generator, [0x2BC830A3 >> 5 * i & 31 for i in range(5, -1, -1)], MAX_TEXT, 3)
 CODEX32 = Code([0x19DC500CE73FDE210 >> 5 * i & 31 for i in range(12, -1, -1)],
                [0x10CE0795C2FD1E62A >> 5 * i & 31 for i in range(12, -1, -1)], 93, 8)
 CODES = {"bech32": BECH32, "bech32m": BECH32M}
 
 # The same for long texts, of which no distance is promised, and all.
-LONG_CODES = {f"long-{name}": code._replace(length=7089, bound=0) for name, code in CODES.items()}
+LONG_CODES = {f"long-{name}": code._replace(length=MAX_LONG_TEXT, bound=0) for name, code in CODES.items()}
 ALL_CODES = {**CODES, **LONG_CODES}
 
 
@@ -133,7 +138,7 @@ def test_hrp(hrp):
     """Refuses what is no human-readable part, by its first fault."""
     if hrp == "":
         raise Refusal(11)
-    if len(hrp.encode()) > 83:
+    if len(hrp.encode()) > MAX_PART:
         raise Refusal(12)
     for place, character in enumerate(hrp):
         if ord(character) > 127:
@@ -233,32 +238,32 @@ def segwit_code(version):
 
 
 def test_program(version, length):
-    if length < 2:
+    if length < MIN_PROGRAM:
         raise Refusal(46)
-    if length > 40:
+    if length > MAX_PROGRAM:
         raise Refusal(47)
-    if version == 0 and length not in (20, 32):
+    if version == 0 and length not in PROGRAMS_OF_VERSION_0:
         raise Refusal(48)
 
 
 def segwit_encode(hrp, version, program):
-    if version > 16:
+    if version > MAX_VERSION:
         raise Refusal(52)
     test_program(version, len(program))
     text = encoded(segwit_code(version), hrp, [version] + to_elements(program))
-    if len(text) > 90:
+    if len(text) > MAX_ADDRESS:
         raise Refusal(53)
     return text
 
 
 def segwit_decode(text):
-    if len(text.encode()) > 90:
+    if len(text.encode()) > MAX_ADDRESS:
         raise Refusal(41)
     hrp, elements = parts(text)
     if not elements:
         raise Refusal(42)
     version = elements[0]
-    if version > 16:
+    if version > MAX_VERSION:
         raise Refusal(43)
     test_checksum(segwit_code(version), text)
     if not elements[:-6]:

@@ -9,6 +9,7 @@ import (
 
 	"bech32proved"
 	"bech32proved/descriptor"
+	"bech32proved/internal/bech32c"
 	"bech32proved/liquid"
 	"bech32proved/segwit"
 )
@@ -404,7 +405,7 @@ func FuzzTexts(f *testing.F) {
 // plainDecode decodes a text as most libraries do: a character at a time, by a table and five words of the generator.
 func plainDecode(text string) (string, []byte, bool) {
 	lower := strings.ToLower(text)
-	if lower != text && strings.ToUpper(text) != text || len(text) > 90 {
+	if lower != text && strings.ToUpper(text) != text || len(text) > bech32c.MaxAddress {
 		return "", nil, false
 	}
 	one := strings.LastIndexByte(lower, '1')

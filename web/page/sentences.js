@@ -1,5 +1,6 @@
 // Every sentence that the page says, in one table, to be read through and aloud. Those of a refusal of the library itself
 // stand in src/reasons.js, since users of the package get them too.
+import { C } from '../src/declared.js';
 import { shown } from '../src/reasons.js';
 import { capital, counted, grouped, listed, numeral } from './words.js';
 
@@ -92,8 +93,8 @@ export const OTHER = {
   several: (count, kind) => ({
     verdict: `${counted(count, '', kind)} stand here, and this page reads one at a time.`, said: ['Choose one of them:'],
   }),
-  tooLong: (length) => `This has ${grouped(length)} characters, which is too long: a text has at most 7,089, an address 90 and `
-    + 'a codex32 string 127.',
+  tooLong: (length) => `This has ${grouped(length)} characters, which is too long: a text has at most `
+    + `${grouped(C.BECH32_MAX_LONG_TEXT)}, an address ${C.BECH32_MAX_SEGWIT_TEXT} and a codex32 string ${C.CODEX32_MAX_LONG_TEXT}.`,
   long: (what, length, most) => ({
     verdict: `This begins like ${what}, and has ${grouped(length)} characters.`,
     said: [`This page tests texts of at most ${grouped(most)} characters, so it can neither test nor correct this.`, COMPARE],

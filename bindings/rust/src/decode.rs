@@ -216,8 +216,9 @@ impl<'s> CheckedHrpstring<'s> {
     ///
     /// # Errors
     ///
-    /// The first of: no data part; more than 90 characters; a witness version above 16; what is wrong
-    /// with the bits behind the program's bytes; what is wrong with the length of the program.
+    /// The first of: no data part; more than [`MAX_STRING_LENGTH`] characters; a witness version
+    /// above 16; what is wrong with the bits behind the program's bytes; what is wrong with the
+    /// length of the program.
     pub fn validate_segwit(mut self) -> Result<SegwitHrpstring<'s>, SegwitHrpstringError> {
         let first = self
             .fe32_iter()
@@ -294,9 +295,9 @@ impl<'s> SegwitHrpstring<'s> {
     ///
     /// # Errors
     ///
-    /// The first of: more than 90 characters; those of [`UncheckedHrpstring::new`]; no data part; a
-    /// witness version above 16; what is wrong with the checksum of that version; those of
-    /// [`CheckedHrpstring::validate_segwit`].
+    /// The first of: more than [`MAX_STRING_LENGTH`] characters; those of
+    /// [`UncheckedHrpstring::new`]; no data part; a witness version above 16; what is wrong with
+    /// the checksum of that version; those of [`CheckedHrpstring::validate_segwit`].
     pub fn new(s: &'s str) -> Result<Self, SegwitHrpstringError> {
         let (mut hrp, mut program) = ([0; MAX_HRP_LENGTH], [0; MAX_PROGRAM_LENGTH]);
         let (hrp_length, version, _) = raw::segwit_decode(s.as_bytes(), &mut hrp, &mut program)

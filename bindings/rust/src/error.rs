@@ -191,7 +191,7 @@ impl fmt::Display for CheckedHrpstringError {
     }
 }
 
-/// A segwit address would have more than 90 characters: how many.
+/// A segwit address would have more than [`MAX_STRING_LENGTH`] characters: how many.
 #[derive(Clone, Copy, Debug, PartialEq, Eq)]
 #[non_exhaustive]
 pub struct SegwitCodeLengthError(pub usize);
@@ -237,7 +237,7 @@ pub enum SegwitHrpstringError {
     Unchecked(UncheckedHrpstringError),
     /// The data part is empty, or nothing is left of it before the checksum.
     NoData,
-    /// It has more than 90 characters: how many.
+    /// It has more than [`MAX_STRING_LENGTH`] characters: how many.
     TooLong(usize),
     /// The witness version is above 16.
     InvalidWitnessVersion(Fe32),

@@ -53,8 +53,9 @@ fn put<'b>(
 ///
 /// # Errors
 ///
-/// The first of: a version above 16; a program of no lawful length; an address of more than 90
-/// characters. Of a part that [`Hrp::parse`] would refuse, [`EncodeError::Fmt`].
+/// The first of: a version above 16; a program of no lawful length; an address of more than
+/// [`MAX_STRING_LENGTH`] characters. Of a part that [`Hrp::parse`] would refuse,
+/// [`EncodeError::Fmt`].
 pub fn encode(
     hrp: Hrp,
     witness_version: Fe32,
@@ -202,7 +203,7 @@ fn unwritten(refusal: Refusal) -> io::Error {
 ///
 /// # Errors
 ///
-/// That number, where it is more than 90.
+/// That number, where it is more than [`MAX_STRING_LENGTH`].
 pub fn encoded_length(
     hrp: Hrp,
     _witness_version: Fe32,
@@ -273,7 +274,7 @@ pub enum EncodeError {
     WitnessVersion(InvalidWitnessVersionError),
     /// The length of the program.
     WitnessLength(WitnessLengthError),
-    /// It would have more than 90 characters.
+    /// It would have more than [`MAX_STRING_LENGTH`] characters.
     TooLong(SegwitCodeLengthError),
     /// A writer failed, or the human-readable part is none.
     Fmt(fmt::Error),

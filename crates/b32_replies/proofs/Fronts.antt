@@ -17,9 +17,10 @@ use Rattle.b32_replies.specs.declared.long_command.Kind.{Kind}
 use Rattle.b32_replies.specs.declared.long_command.Kind.TheVariants.{Bytes, Elements}
 use Rattle.b32_replies.specs.declared.refusal.Refusal.{Refusal}
 use Rattle.b32_replies.specs.declared.refusal.Refusal.TheVariants as refusals
+use Rattle.bech32.specs.Long.{max_long_text_length}
 
 -- as many numbers as the code is long are too many
-too_many : (kind : Kind) (code : Code) (hrp values : List ℕ) → code.code_length ≤ 7089 → code.code_length ≤ length values
+too_many : (kind : Kind) (code : Code) (hrp values : List ℕ) → code.code_length ≤ max_long_text_length → code.code_length ≤ length values
     → code.code_length < encoded_length_of code hrp (elements_by kind values)
 too_many Bytes code hrp values short many =
     let count : length (to_fes values) ≡ fes_count 0 (length values) = length-to_fes values in
@@ -70,7 +71,7 @@ is_51 Elements code hrp given (refusals.LiquidEncode e) long h = absurd h
 is_51 Elements code hrp given (refusals.LiquidDecode e) long h = absurd h
 is_51 Elements code hrp given refusals.Memory long h = absurd h
 
-module _ {S : Type 0} (bytes : S → List ℕ) (kind : Kind) (code : Code) (hrp : List ℕ) (short : code.code_length ≤ 7089) where
+module _ {S : Type 0} (bytes : S → List ℕ) (kind : Kind) (code : Code) (hrp : List ℕ) (short : code.code_length ≤ max_long_text_length) where
   -- of more numbers
   of_more : (given values : List ℕ) (r : Result S Refusal) → code.code_length ≤ length given → code.code_length ≤ length values
       → MatchResult r (λ s. IsLongWritten kind code hrp given (bytes s)) (λ e. IsNotWritten kind code hrp given e) → IsTextOrRefusal bytes kind code hrp values r
@@ -100,7 +101,7 @@ module _ {S : Type 0} (bytes : S → List ℕ) (kind : Kind) (code : Code) (hrp 
   ]
 
 -- the same of a refusal alone
-pub refused_front : (kind : Kind) (code : Code) (hrp : List ℕ) → code.code_length ≤ 7089 → (room given values : List ℕ) (size : ℕ) (e : Refusal) → code.code_length ≤ length room
+pub refused_front : (kind : Kind) (code : Code) (hrp : List ℕ) → code.code_length ≤ max_long_text_length → (room given values : List ℕ) (size : ℕ) (e : Refusal) → code.code_length ≤ length room
     → (size ≤ length room → given ≡ take size room) → (length room < size → given ≡ room) → IsNotWritten kind code hrp given e → size ≡ length values
     → (size ≤ length room → take size room ≡ values) → (own : Refusal) × IsNotWritten kind code hrp values own × (number_of_reply e ≡ number_of_reply own)
 refused_front kind code hrp short room given values size e full fitting all h count there =

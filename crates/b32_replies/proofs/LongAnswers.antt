@@ -32,6 +32,7 @@ use Rattle.b32_replies.specs.declared.long_command.LongChecksum.{LongChecksum}
 use Rattle.b32_replies.specs.declared.long_command.LongChecksum.TheVariants.{LongBech32, LongBech32m}
 use Rattle.b32_replies.specs.declared.refusal.Refusal.{Refusal}
 use Rattle.b32_replies.specs.declared.refusal.Refusal.TheVariants.{BadHex, Encode}
+use Rattle.bech32.specs.Long.{max_long_text_length}
 
 -- ---- what a text is the only one of, by what is decoded
 
@@ -55,7 +56,7 @@ known P kind other code same k c h = subst (λ (x : Kind). P x code) (sym k) (su
 
 -- ---- how long the codes of long texts are
 
-pub long-code : (checksum : LongChecksum) → (code_of_long checksum).code_length ≡ 7089
+pub long-code : (checksum : LongChecksum) → (code_of_long checksum).code_length ≡ max_long_text_length
 long-code LongBech32 = refl
 long-code LongBech32m = refl
 

@@ -17,6 +17,7 @@ use Rattle.line_program.specs.Refused.{err}
 use Rattle.b32_replies.specs.Reply.{IsEncodedAddressFault, IsVersionWord, IsNoVersion, IsSegwitEncodeAnswer}
 use Rattle.b32_replies.proofs.Sizes.{length-hex_of}
 use Rattle.b32_replies.proofs.VersionWords.{length-version}
+use Rattle.bech32_refusals.specs.SegwitRules.{max_address_length, max_program_length}
 
 -- ---- the answer to `segwit-encode`
 
@@ -42,9 +43,9 @@ module _ (hrp word hex : List ℕ) where
 -- ---- the answer to `segwit-decode`
 
 -- the parts of an address
-pub address-sizes : (text hrp : List ℕ) (version : Fe32) (program : List ℕ) → IsAddress hrp version program text → (length hrp ≤ 83) × (length program ≤ 40)
+pub address-sizes : (text hrp : List ℕ) (version : Fe32) (program : List ℕ) → IsAddress hrp version program text → (length hrp ≤ 83) × (length program ≤ max_program_length)
 address-sizes text hrp version program a =
-    let few : length a.lower ≤ 90 = a.address.text_length in
+    let few : length a.lower ≤ max_address_length = a.address.text_length in
     let size = length-encoded (segwit_code version) hrp (version ∷ to_fes program) a.lower a.address.encoded in
     let six = degree (version.value == 0) in
     (omega arith, a.address.program_length.not_long)

@@ -15,11 +15,9 @@ use crate::part_word::part_of_word;
 use crate::refusal::Refusal;
 use crate::version_word::version_of_word;
 use bech32::Fe32;
+use bech32::primitives::segwit::MAX_PROGRAM_LENGTH;
 use line_program::{append, append_number};
 use liquid::{KEY_LENGTH, decode, put_address, validate};
-
-// No program has more bytes.
-const ROOM: usize = 40;
 
 // No address has more characters.
 const MOST: usize = 201;
@@ -72,7 +70,7 @@ pub fn liquid_encode(words: (&str, (&str, (&str, &str))), out: &mut Vec<u8>) -> 
         return Err(Refusal::BadNumber);
     };
     let key = key_of_word(key)?;
-    let mut room = [0u8; ROOM];
+    let mut room = [0u8; MAX_PROGRAM_LENGTH];
     let size = put_bytes_of_word(hex, &mut room)?;
     let hrp = part_of_word(hrp)?;
     if let Err(e) = validate(version, size) {

@@ -9,6 +9,7 @@ ghost use Rattle.b32_replies.specs.LongRequest.{code_of_long};
 ghost use Rattle.b32_replies.specs.Numbers.{number_of_reply};
 ghost use Rattle.b32_replies.specs.Reply.{IsLongDecodeAnswer, IsLongEncodeAnswer, IsNotRead, IsNotWritten, IsLongRead, IsLongWritten, memory_refusal};
 ghost use Rattle.b32_replies.specs.Written.{IsTextOrRefusal};
+ghost use Rattle.bech32.specs.Long.{max_long_text_length};
 
 use crate::append::append_part;
 use crate::encode::front_of;
@@ -17,14 +18,11 @@ use crate::long_command::{Kind, LongChecksum};
 use crate::part_word::part_of_word;
 use crate::refusal::Refusal;
 use bech32::{
-    ElementsError, EncodeError, Hrp, LongBech32, LongBech32m, TextError, decode_elements_in,
-    decode_strict_in, encode_elements_in, encode_in,
+    ElementsError, EncodeError, Hrp, LongBech32, LongBech32m, MAX_LONG_TEXT_LENGTH, TextError,
+    decode_elements_in, decode_strict_in, encode_elements_in, encode_in,
 };
 use line_program::append;
 use std::alloc::{AllocError, Allocator};
-
-// No text of 7,089 characters has more bytes or elements.
-const MOST: usize = 7089;
 
 // Adds `ok`, a space and a text, and keeps room for one byte more, or leaves all as it was where
 // there is no memory.
@@ -115,7 +113,7 @@ fn written_of_front<A: Allocator>(
     room: &[u8],
     size: usize,
 ) -> Result<String<A>, Refusal>
-    requires { length room.now ≡ 7089 }
+    requires { length room.now ≡ max_long_text_length }
     ensures { (values : List ℕ) → size ≡ length values
         → (size ≤ length room.now → take size room.now ≡ values)
         → IsTextOrRefusal (λ s. string_bytes s) kind (code_of_long asked.0)
@@ -165,7 +163,7 @@ pub fn encode_long<A: Allocator + Copy>(
     ensures capacity { vec_capacity out.old ≤ vec_capacity out.new }
 {
     let (checksum, (hrp, hex)) = asked;
-    let mut room = [0u8; MOST];
+    let mut room = [0u8; MAX_LONG_TEXT_LENGTH];
     let size = put_bytes_of_word(hex, &mut room)?;
     let hrp = Hrp::of_bytes(part_of_word(hrp)?);
     let text = written_of_front(alloc, kind, (checksum, hrp), &room, size)?;

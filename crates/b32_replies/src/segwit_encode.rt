@@ -10,24 +10,24 @@ ghost use Rattle.b32_replies.specs.Hex.{bytes_of};
 ghost use Rattle.b32_replies.specs.Numbers.{number_of_reply};
 ghost use Rattle.line_program.specs.Added.{AddsOrRefuses};
 ghost use Rattle.b32_replies.specs.Reply.{IsEncodedAddressFault, IsSegwitEncodeAnswer, IsVersionWord};
+ghost use Rattle.bech32_refusals.specs.SegwitRules.{max_address_length, max_program_length};
 
 use crate::encode::append_text;
 use crate::hex_word::put_bytes_of_word;
 use crate::part_word::part_of_word;
 use crate::refusal::Refusal;
 use crate::version_word::version_of_word;
-use bech32::primitives::segwit::{WitnessLengthError, validate_witness_version};
+use bech32::primitives::segwit::{
+    MAX_PROGRAM_LENGTH, WitnessLengthError, validate_witness_version,
+};
 use bech32::{Bech32, Bech32m, Fe32, segwit};
 use line_program::append;
-
-/// No program has more bytes.
-const ROOM: usize = 40;
 
 /// The length of the address of a program, where there is one.
 fn length_of(hrp: &[u8], version: Fe32, program: &[u8]) -> Result<usize, Refusal>
     ensures { MatchResult result
         (λ n. HasAddress hrp.now version program.now
-        × (n ≡ address_length hrp.now program.now) × (n ≤ 90))
+        × (n ≡ address_length hrp.now program.now) × (n ≤ max_address_length))
         (λ refusal. (e : EncodeError) × (refusal ≡ Refusal.SegwitEncode e)
         × IsEncodedAddressFault hrp.now version program.now e) }
 {
@@ -39,7 +39,7 @@ fn length_of(hrp: &[u8], version: Fe32, program: &[u8]) -> Result<usize, Refusal
 
 /// Why there is no address of a program that does not fit into the room.
 fn refusal_of_long(version: Fe32) -> Refusal
-    ensures { (hrp program : List ℕ) → 40 < length program
+    ensures { (hrp program : List ℕ) → max_program_length < length program
         → (e : EncodeError) × (result ≡ Refusal.SegwitEncode e)
         × IsEncodedAddressFault hrp version program e }
 {
@@ -52,7 +52,7 @@ fn refusal_of_long(version: Fe32) -> Refusal
 /// Adds the text of a program by the checksum of its version, which has this length.
 fn append_by_version(out: &mut Vec<u8>, hrp: &[u8], version: Fe32, program: &[u8], count: usize)
     requires size { count ≡ address_length hrp.now program.now }
-    requires short { count ≤ 90 }
+    requires short { count ≤ max_address_length }
     requires room { vec_len out.old + count ≤ vec_capacity out.old }
     ensures text { (text : List ℕ)
         × IsEncodedText (segwit_code version) hrp.now
@@ -98,9 +98,9 @@ pub fn segwit_encode(hrp: &str, version: &str, hex: &str, out: &mut Vec<u8>) -> 
     let Some(version) = version_of_word(version) else {
         return Err(Refusal::BadNumber);
     };
-    let mut room = [0u8; ROOM];
+    let mut room = [0u8; MAX_PROGRAM_LENGTH];
     let size = put_bytes_of_word(hex, &mut room)?;
-    if size > ROOM {
+    if size > MAX_PROGRAM_LENGTH {
         part_of_word(hrp)?;
         return Err(refusal_of_long(version));
     }

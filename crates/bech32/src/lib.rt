@@ -46,7 +46,7 @@ pub use elements::{
     decode_elements, decode_elements_in, elements_length, encode_elements, encode_elements_in,
 };
 pub use error::EncodeIoError;
-pub use long::{LongBech32, LongBech32m};
+pub use long::{LongBech32, LongBech32m, MAX_LONG_TEXT_LENGTH};
 /// [`encode`] and [`encode_in`], which write lower case.
 pub use self::{encode as encode_lower, encode_in as encode_lower_in};
 use std::alloc::{Allocator, Global};

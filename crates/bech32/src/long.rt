@@ -8,19 +8,22 @@
 ghost use Rattle.std.specs.Prelude.{refl};
 ghost use Rattle.std.proofs.Common.{ap};
 ghost use Rattle.bech32_checksum.specs.Roots.{HasLawfulRoots};
-ghost use Rattle.bech32.specs.Long.{long};
+ghost use Rattle.bech32.specs.Long.{long, max_long_text_length};
 
 use bech32_checksum::{Bech32, Bech32m, Checksum};
 use bech32_gf::gf32::Fe32;
 use std::marker::PhantomData;
 
-/// Bech32 (BIP-173) for texts of up to 7,089 characters.
+/// The most characters of a long text: those of the longest invoices (BOLT 11).
+pub const MAX_LONG_TEXT_LENGTH: usize = 7089;
+
+/// Bech32 (BIP-173) for texts of up to [`MAX_LONG_TEXT_LENGTH`] characters.
 pub type LongBech32 = Long<Bech32>;
 
-/// Bech32m (BIP-350) for texts of up to 7,089 characters.
+/// Bech32m (BIP-350) for texts of up to [`MAX_LONG_TEXT_LENGTH`] characters.
 pub type LongBech32m = Long<Bech32m>;
 
-/// `Ck` for texts of up to 7,089 characters: nothing but this length differs.
+/// `Ck` for texts of up to [`MAX_LONG_TEXT_LENGTH`] characters: nothing but this length differs.
 #[derive(Copy, Clone)]
 pub struct Long<Ck> {
     of: PhantomData<Ck>,
@@ -37,7 +40,7 @@ impl<Ck: Checksum> Checksum for Long<Ck> {
 
     ghost ROOT_EXPONENTS_END = { Ck.ROOT_EXPONENTS_END };
 
-    ghost CODE_LENGTH = { 7089 };
+    ghost CODE_LENGTH = { max_long_text_length };
 
     ghost CHECKSUM_LENGTH = { Ck.CHECKSUM_LENGTH };
 
@@ -58,7 +61,7 @@ impl<Ck: Checksum> Checksum for Long<Ck> {
 
     const ROOT_EXPONENTS_END: usize = Ck::ROOT_EXPONENTS_END;
 
-    const CODE_LENGTH: usize = 7089;
+    const CODE_LENGTH: usize = MAX_LONG_TEXT_LENGTH;
 
     const CHECKSUM_LENGTH: usize = Ck::CHECKSUM_LENGTH;
 

@@ -29,6 +29,7 @@ use Rattle.bech32_refusals.specs.declared.error.SegwitHrpstringError.TheVariants
 use Rattle.bech32_refusals.specs.declared.error.UncheckedHrpstringError.{UncheckedHrpstringError}
 use Rattle.bech32_calls.proofs.Letters.{IsUtf8-from_text, no_part_fault}
 use Rattle.bech32_calls.proofs.Puts.{put-same}
+use Rattle.bech32_refusals.specs.SegwitRules.{max_address_length}
 
 -- ---- encoding
 
@@ -174,10 +175,10 @@ module _ (text part : List ℕ) (v : Fe32) (characters : List ℕ) (h : IsReadIn
   })
 
 -- why a text of the grammar is no address
-pub refused_address : (text hrp data_part : List ℕ) (m n : ℕ) (e : SegwitHrpstringError) → IsText text hrp data_part → length text ≤ 90 → IsAddressRefusal segwit_code text e
+pub refused_address : (text hrp data_part : List ℕ) (m n : ℕ) (e : SegwitHrpstringError) → IsText text hrp data_part → length text ≤ max_address_length → IsAddressRefusal segwit_code text e
     → IsSegwitDecodeFault text m n (Address e)
 refused_address text hrp data_part m n e is few refusal = (IsUtf8-from_text text hrp data_part is, inr (few, refusal))
 
 -- why a text is not read is why it is no address
-pub unread_address : (text : List ℕ) (m n : ℕ) (e : UncheckedHrpstringError) → length text ≤ 90 → IsTextFault text (Text e) → IsSegwitDecodeFault text m n (Address (Unchecked e))
+pub unread_address : (text : List ℕ) (m n : ℕ) (e : UncheckedHrpstringError) → length text ≤ max_address_length → IsTextFault text (Text e) → IsSegwitDecodeFault text m n (Address (Unchecked e))
 unread_address text m n e few h = (h.0, inr (few, inl (record { error = e; is = refl; refusal = h.1 })))

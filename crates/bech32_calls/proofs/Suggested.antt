@@ -6,7 +6,7 @@ use Rattle.bech32_decode.specs.Text.{text_refusal}
 use Rattle.bech32_decode.proofs.Grammar.{text_refusal-none}
 use Rattle.bech32_hrp.specs.Hrp.{IsHrp}
 use Rattle.bech32_suggest.specs.Suggestions.{AreSuggestions, IsTriedText, Suggested}
-use Rattle.bech32_suggest.specs.Typed.{as_read}
+use Rattle.bech32_suggest.specs.Typed.{as_read, max_typed_length}
 use Rattle.bech32_suggest.specs.declared.mendings.Mending.{Mending}
 use Rattle.bech32_suggest.proofs.Reading.{utf8_read}
 use Rattle.bech32_calls.specs.Listing.{EndsWell, IfAllPut, IfNotAllPut, LacksMemory, ListsRows}
@@ -20,7 +20,7 @@ use Rattle.bech32_calls.proofs.Letters.{no_part_fault}
 -- ---- where none are put
 
 -- a text that is read is refused for no fault
-no_fault : (text : List ℕ) → IsTyped text → length text ≤ 91 → text_refusal (as_read text) ≡ None
+no_fault : (text : List ℕ) → IsTyped text → length text ≤ max_typed_length → text_refusal (as_read text) ≡ None
 no_fault text (u, inl long) short = absurd (omega (arith, long, short))
 no_fault text (u, inr is) short = text_refusal-none (as_read text) (utf8_read text u) is
 

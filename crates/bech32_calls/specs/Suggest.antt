@@ -4,7 +4,7 @@ use Rattle.std.specs.Str.{IsUtf8}
 use Rattle.bech32_decode.specs.Text.{IsInGrammar, text_refusal}
 use Rattle.bech32_hrp.specs.Hrp.{IsHrp}
 use Rattle.bech32_suggest.specs.Suggestions.{AreSuggestions, IsTriedText, Suggested}
-use Rattle.bech32_suggest.specs.Typed.{as_read}
+use Rattle.bech32_suggest.specs.Typed.{as_read, max_typed_length}
 use Rattle.bech32_suggest.specs.declared.mendings.Mending.{Mending}
 use Rattle.bech32_suggest.specs.declared.mendings.Mending.TheVariants.{LeftOut, PutIn, Replaced}
 use Rattle.bech32_suggest.specs.declared.mendings.Mending.TheVariants.{Swapped, Unchanged}
@@ -71,7 +71,7 @@ pub record LacksRoomForSuggestions (text hrp : List ℕ)
 abbrev pub IsTypedFault : List ℕ → Refusal → Type 0
 IsTypedFault text NotUtf8 = ¬ (IsUtf8 text)
 IsTypedFault text (Text e) =
-    IsUtf8 text × (length text ≤ 91) × (text_refusal (as_read text) ≡ Some e)
+    IsUtf8 text × (length text ≤ max_typed_length) × (text_refusal (as_read text) ≡ Some e)
 IsTypedFault text Memory = IsTriedText text
 IsTypedFault text _ = ⊥
 
@@ -81,7 +81,7 @@ IsSuggestFault text hrp e = IsPartFault hrp e ⊎ (IsHrp hrp × IsTypedFault tex
 
 -- the bytes are a text, of more than 91 of them or in the grammar as it is read
 abbrev pub IsTyped : List ℕ → Type 0
-IsTyped text = IsUtf8 text × ((91 < length text) ⊎ IsInGrammar (as_read text))
+IsTyped text = IsUtf8 text × ((max_typed_length < length text) ⊎ IsInGrammar (as_read text))
 
 -- why nothing is put into buffers; or memory that had bytes did not come back: then nothing is said
 -- but that both texts are read

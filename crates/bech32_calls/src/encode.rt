@@ -1,6 +1,7 @@
 //! Encodes bytes.
 
 ghost use Rattle.std.specs.Prelude.{◌≡◌, ◌≤◌, ◌+◌, ◌++◌, ℕ, List, length, option_to_list, IfOk, IfErr, OnErr};
+ghost use Rattle.bech32.specs.Long.{max_long_text_length};
 ghost use Rattle.bech32_bits.specs.Bits.{to_fes};
 ghost use Rattle.bech32_checksum.specs.Encoded.{IsEncodedText};
 ghost use Rattle.bech32_encode.specs.Buffers.{IsPut};
@@ -33,7 +34,7 @@ pub(crate) fn put_in_room<Ck: Checksum>(
 
 // Puts the text by one checksum, and returns its length.
 fn encoded<Ck: Checksum>(hrp: &[u8], bytes: &[u8], text: &mut [u8]) -> Result<usize, Refusal>
-    requires { Ck.code.code_length ≤ 7089 }
+    requires { Ck.code.code_length ≤ max_long_text_length }
     ensures value { IfOk result
         (λ count. PutsText Ck.code hrp.now bytes.now text.old text.new count) }
     ensures refused { IfErr result
@@ -49,7 +50,8 @@ fn encoded<Ck: Checksum>(hrp: &[u8], bytes: &[u8], text: &mut [u8]) -> Result<us
 }
 
 /// Puts the text of a human-readable part and bytes by the checksum of a number, in lower case, at
-/// the front of a buffer, and returns its length, at most 1023, or 7089 by a long one.
+/// the front of a buffer, and returns its length, at most [`Bech32::CODE_LENGTH`](bech32::Bech32),
+/// or [`bech32::MAX_LONG_TEXT_LENGTH`] by a long one.
 ///
 /// # Errors
 ///

@@ -11,6 +11,7 @@ ghost use Rattle.bech32_segwit.specs.SegwitEncoding.{address_length};
 ghost use Rattle.bech32_encode.specs.Buffers.{IsPut};
 ghost use Rattle.bech32_calls.specs.Segwit.{PutsAddress, IsSegwitEncodeFault};
 ghost use Rattle.bech32_calls.specs.Segwit.{PutsProgram, IsSegwitDecodeFault};
+ghost use Rattle.bech32_refusals.specs.SegwitRules.{max_address_length};
 
 use crate::decode::put_parts;
 use crate::encode::put_in_room;
@@ -38,13 +39,14 @@ fn put_address(part: &[u8], version: Fe32, program: &[u8], text: &mut [u8]) -> u
 }
 
 /// Puts the segwit address of a witness version from 0 to 16 and a program, in lower case, at the
-/// front of a buffer, and returns its length, at most 90.
+/// front of a buffer, and returns its length, at most [`MAX_STRING_LENGTH`].
 ///
 /// # Errors
 ///
 /// The first of: a version above 31; a human-readable part that is not UTF-8, or is none; a version
 /// above 16; a program of less than 2 bytes, of more than 40, or of neither 20 nor 32 in version 0;
-/// an address of more than 90 characters, or of more than the buffer has room for.
+/// an address of more than [`MAX_STRING_LENGTH`] characters, or of more than the buffer has room
+/// for.
 pub fn encoded(hrp: &[u8], version: u32, program: &[u8], text: &mut [u8]) -> Result<usize, Refusal>
     ensures value { IfOk result
         (λ count. PutsAddress hrp.now version program.now text.old text.new count) }
@@ -64,11 +66,12 @@ pub fn encoded(hrp: &[u8], version: u32, program: &[u8], text: &mut [u8]) -> Res
     Ok(put_address(hrp, element, program, text))
 }
 
-// Why a text of more than 90 characters is no address. Out of line: few texts come here.
+// Why a text of more than `MAX_STRING_LENGTH` characters is no address. Out of line: few texts come
+// here.
 #[cold]
 #[inline(never)]
 fn refusal_of_long(text: &[u8]) -> Refusal
-    requires { 90 < length text.now }
+    requires { max_address_length < length text.now }
     ensures { (m n : ℕ) → IsSegwitDecodeFault text.now m n result }
 {
     match text_of(text) {
@@ -77,10 +80,10 @@ fn refusal_of_long(text: &[u8]) -> Refusal
     }
 }
 
-// Why bytes, at most 90, that are not read are no address.
+// Why bytes, at most `MAX_STRING_LENGTH`, that are not read are no address.
 #[inline(always)]
 fn refusal_of_unread(error: BytesError) -> Refusal
-    ensures { (text : List ℕ) → length text ≤ 90 → IsBytesFault text error
+    ensures { (text : List ℕ) → length text ≤ max_address_length → IsBytesFault text error
         → (m n : ℕ) → IsSegwitDecodeFault text m n result }
 {
     match error {
@@ -89,11 +92,11 @@ fn refusal_of_unread(error: BytesError) -> Refusal
     }
 }
 
-// Reads the text of bytes that may be an address: they are at most 90.
+// Reads the text of bytes that may be an address: they are at most `MAX_STRING_LENGTH`.
 #[inline(always)]
 fn read_short(text: &[u8]) -> Result<Reading<'_, Bech32m>, Refusal>
     ensures { MatchResult result
-        (λ r. (r.text.now ≡ text.now) × (length text.now ≤ 90))
+        (λ r. (r.text.now ≡ text.now) × (length text.now ≤ max_address_length))
         (λ e. (m n : ℕ) → IsSegwitDecodeFault text.now m n e) }
 {
     if text.len() > MAX_STRING_LENGTH {

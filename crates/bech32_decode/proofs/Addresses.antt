@@ -23,7 +23,7 @@ use Rattle.bech32_decode.specs.Checked.{IsWithoutChecksum}
 use Rattle.bech32_decode.specs.Refusals.{HasValidChecksum, IsChecksumRefusal}
 use Rattle.bech32_decode.specs.Segwit.{segwit_code, IsLowerAddress, IsAddress, IsAddressText, IsVersioned, IsVersionRefusal, IsSegwitData, IsDataRefusal, IsUnread, IsWithoutVersion, IsOfWrongChecksum, IsOfWrongData, IsAddressRefusal, IsSegwitRefusal}
 use Rattle.bech32_decode.specs.SegwitParts.{IsSegwitOf, IsDataOf, IsReadIn, IsReadAddress, IsReadBy, IsRefusedBy, IsWrongDataOf}
-use Rattle.bech32_refusals.specs.SegwitRules.{IsProgramLength, IsLengthRefusal}
+use Rattle.bech32_refusals.specs.SegwitRules.{IsProgramLength, IsLengthRefusal, max_address_length, max_witness_version}
 use Rattle.bech32_decode.specs.SegwitPadding.{IsPadded, IsPaddingRefusal}
 use Rattle.bech32_decode.specs.declared.address.SegwitHrpstring.{SegwitHrpstring}
 use Rattle.bech32_decode.specs.declared.address_data.AddressData.{AddressData}
@@ -63,7 +63,7 @@ address-from_parts text hrp v characters h =
     elements-before (segwit_code v) h.data_part h.checked h.before
     ∙ ap (λ (l : List Fe32). l ++ sum) (h.elements ∙ ap (λ (l : List Fe32). v ∷ l) (sym (to_fes-to_bytes program h.lawful.padded))) in
     let size : length (lowered text) ≡ length text = length-map text to_ascii_lowercase in
-    let few : length text ≤ 90 = h.lawful.text_length in
+    let few : length text ≤ max_address_length = h.lawful.text_length in
     record {
       lower = lowered text;
       address = record {
@@ -118,7 +118,7 @@ address-parts : (hrp : List ℕ) (version : Fe32) (program text lower : List ℕ
     → (e : IsEncodedText (segwit_code version) hrp (version ∷ to_fes program) lower) → IsSpelled text hrp ((version ∷ to_fes program) ++ e.checksum) → IsAddressIn text
 address-parts hrp version program text lower a same e s =
     let code = segwit_code version in
-    let few : length lower ≤ 90 = a.text_length in
+    let few : length lower ≤ max_address_length = a.text_length in
     let degree = short version in
     let longest = within version in
     let fes : List Fe32 = (version ∷ to_fes program) ++ e.checksum in
@@ -169,7 +169,7 @@ parts-from_address text (hrp, version, program, is_hrp, a) =
 
 -- ---- an address is not refused
 
-no_version_refusal : (fes : List Fe32) (version : Fe32) (others : List Fe32) (e : SegwitHrpstringError) → fes ≡ version ∷ others → version.value ≤ 16
+no_version_refusal : (fes : List Fe32) (version : Fe32) (others : List Fe32) (e : SegwitHrpstringError) → fes ≡ version ∷ others → version.value ≤ max_witness_version
     → IsVersionRefusal fes e → ⊥
 no_version_refusal fes version others NoData is fits h = absurd (let both : [] ≡ version ∷ others = sym h ∙ is in cc)
 no_version_refusal fes version others (InvalidWitnessVersion v) is fits (more, parts, over) =
@@ -198,8 +198,8 @@ no_data_refusal : (n : ℕ) (fes : List Fe32) (version : Fe32) (program : List F
     → IsSegwitData n version program → IsDataRefusal n fes e → ⊥
 no_data_refusal n fes version program NoData is d h = no_version_refusal fes version program NoData is d.version_fits h
 no_data_refusal n fes version program (TooLong m) is d h =
-    let few : n ≤ 90 = d.text_length in
-    let over : 90 < n = h.1 in
+    let few : n ≤ max_address_length = d.text_length in
+    let over : max_address_length < n = h.1 in
     absurd (omega arith)
 no_data_refusal n fes version program (InvalidWitnessVersion v) is d h = no_version_refusal fes version program (InvalidWitnessVersion v) is d.version_fits h.1
 no_data_refusal n fes version program (Padding e) is d (few, v, others, versioned, h) =
@@ -273,8 +273,8 @@ module _ (text : List ℕ) (a : IsAddressIn text) where
 
   pub not_refused : (e : SegwitHrpstringError) → IsUtf8 text → IsSegwitRefusal text e → ⊥
   not_refused e u (inl long) =
-      let few : length text ≤ 90 = a.lawful.text_length in
-      let over : 90 < length text = long.0 in
+      let few : length text ≤ max_address_length = a.lawful.text_length in
+      let over : max_address_length < length text = long.0 in
       absurd (omega arith)
   not_refused e u (inr (few, inl r)) = not_unread e u r
   not_refused e u (inr (few, inr (inl r))) = not_without_version e r

@@ -12,7 +12,7 @@ use Rattle.bech32_checksum.specs.Encoded.{IsEncodedText}
 use Rattle.bech32_decode.specs.Acceptance.{IsAccepted}
 use Rattle.bech32_decode.specs.Refusals.{IsChecksumRefusal}
 use Rattle.bech32_decode.specs.BeforeChecksum.{IsBeforeChecksum}
-use Rattle.bech32_refusals.specs.SegwitRules.{IsProgramLength, IsLengthRefusal}
+use Rattle.bech32_refusals.specs.SegwitRules.{IsProgramLength, IsLengthRefusal, max_address_length, max_witness_version}
 use Rattle.bech32_decode.specs.SegwitPadding.{IsPadded, IsPaddingRefusal}
 use Rattle.bech32_refusals.specs.declared.error.ChecksumError.{ChecksumError}
 use Rattle.bech32_refusals.specs.declared.error.UncheckedHrpstringError.{UncheckedHrpstringError}
@@ -36,9 +36,9 @@ segwit_code version = if version.value == 0 then bech32 else bech32m
 
 -- the lower-case address of a human-readable part, a version and a program
 pub record IsLowerAddress (hrp : List ℕ) (version : Fe32) (program text : List ℕ) : Type 0 where
-  pub version_fits : version.value ≤ 16
+  pub version_fits : version.value ≤ max_witness_version
   pub program_length : IsProgramLength version (length program)
-  pub text_length : length text ≤ 90
+  pub text_length : length text ≤ max_address_length
   pub encoded : IsEncodedText (segwit_code version) hrp (version ∷ to_fes program) text
 
 -- the address in lower case throughout or in upper case throughout
@@ -68,13 +68,13 @@ IsOneSpelling text hrp version program =
 -- a version, from 0 to 16, and others
 pub record IsVersioned (fes : List Fe32) (version : Fe32) (others : List Fe32) : Type 0 where
   pub parts : fes ≡ version ∷ others
-  pub fits : version.value ≤ 16
+  pub fits : version.value ≤ max_witness_version
 
 -- why they do not begin with a version: the first of two faults
 abbrev pub IsVersionRefusal : List Fe32 → SegwitHrpstringError → Type 0
 IsVersionRefusal fes NoData = fes ≡ []
 IsVersionRefusal fes (InvalidWitnessVersion v) =
-    (others : List Fe32) × (fes ≡ v ∷ others) × (16 < v.value)
+    (others : List Fe32) × (fes ≡ v ∷ others) × (max_witness_version < v.value)
 IsVersionRefusal fes (Unchecked e) = ⊥
 IsVersionRefusal fes (TooLong n) = ⊥
 IsVersionRefusal fes (Padding e) = ⊥
@@ -84,22 +84,22 @@ IsVersionRefusal fes Memory = ⊥
 
 -- a version and the elements of a program, in a text of n characters
 pub record IsSegwitData (n : ℕ) (version : Fe32) (program : List Fe32) : Type 0 where
-  pub text_length : n ≤ 90
-  pub version_fits : version.value ≤ 16
+  pub text_length : n ≤ max_address_length
+  pub version_fits : version.value ≤ max_witness_version
   pub padded : IsPadded program
   pub program_length : IsProgramLength version (length (to_bytes program))
 
 -- why elements are not these: the first fault
 abbrev pub IsDataRefusal : ℕ → List Fe32 → SegwitHrpstringError → Type 0
 IsDataRefusal n fes NoData = fes ≡ []
-IsDataRefusal n fes (TooLong m) = (fes ≢ []) × (90 < n) × (m ≡ n)
+IsDataRefusal n fes (TooLong m) = (fes ≢ []) × (max_address_length < n) × (m ≡ n)
 IsDataRefusal n fes (InvalidWitnessVersion v) =
-    (n ≤ 90) × IsVersionRefusal fes (InvalidWitnessVersion v)
+    (n ≤ max_address_length) × IsVersionRefusal fes (InvalidWitnessVersion v)
 IsDataRefusal n fes (Padding e) =
-    (n ≤ 90) × (version : Fe32) × (program : List Fe32) × IsVersioned fes version program
+    (n ≤ max_address_length) × (version : Fe32) × (program : List Fe32) × IsVersioned fes version program
     × IsPaddingRefusal program e
 IsDataRefusal n fes (WitnessLength e) =
-    (n ≤ 90) × (version : Fe32) × (program : List Fe32) × IsVersioned fes version program
+    (n ≤ max_address_length) × (version : Fe32) × (program : List Fe32) × IsVersioned fes version program
     × IsPadded program
     × IsLengthRefusal version (length (to_bytes program)) e
 IsDataRefusal n fes (Unchecked e) = ⊥
@@ -156,5 +156,5 @@ IsAddressRefusal code text e =
 -- why a text is not an address: it is too long, or the first of those
 abbrev pub IsSegwitRefusal : List ℕ → SegwitHrpstringError → Type 0
 IsSegwitRefusal text e =
-    ((90 < length text) × (e ≡ TooLong (length text)))
-    ⊎ ((length text ≤ 90) × IsAddressRefusal segwit_code text e)
+    ((max_address_length < length text) × (e ≡ TooLong (length text)))
+    ⊎ ((length text ≤ max_address_length) × IsAddressRefusal segwit_code text e)

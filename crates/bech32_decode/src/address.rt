@@ -68,7 +68,7 @@ impl<'s> SegwitHrpstring<'s> {
     ///
     /// # Errors
     ///
-    /// The first of: more than 90 characters; the text is not in the grammar (as
+    /// The first of: more than [`MAX_STRING_LENGTH`] characters; the text is not in the grammar (as
     /// [`UncheckedHrpstring::new`]); no data part; a witness version above 16; its checksum (as
     /// [`UncheckedHrpstring::validate_checksum`]); no data before the checksum; padding of more
     /// than four bits; padding that is not zero; a program of less than 2 bytes, of more than 40,
@@ -88,9 +88,9 @@ impl<'s> SegwitHrpstring<'s> {
     /// # Errors
     ///
     /// The first of: the text is not in the grammar; no data part; a witness version above 16; the
-    /// checksum; no data before the checksum; more than 90 characters; padding of more than four
-    /// bits; padding that is not zero; a program of less than 2 bytes, of more than 40, or of
-    /// neither 20 nor 32 in version 0.
+    /// checksum; no data before the checksum; more than [`MAX_STRING_LENGTH`] characters; padding
+    /// of more than four bits; padding that is not zero; a program of less than 2 bytes, of more
+    /// than 40, or of neither 20 nor 32 in version 0.
     pub fn new_bech32(s: &'s str) -> Result<Self, SegwitHrpstringError>
         ensures { MatchResult result
             (λ a. IsReadAddress (λ _. bech32) s.now a)

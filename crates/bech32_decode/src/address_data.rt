@@ -8,7 +8,7 @@ ghost use Rattle.bech32_bits.specs.Bits.{to_bytes};
 ghost use Rattle.bech32_decode.specs.Segwit.{IsDataRefusal, IsVersioned};
 ghost use Rattle.bech32_decode.specs.SegwitParts.{IsDataOf};
 ghost use Rattle.bech32_decode.specs.SegwitPadding.{IsPadded, IsPaddingRefusal};
-ghost use Rattle.bech32_refusals.specs.SegwitRules.{IsLengthRefusal, IsProgramLength};
+ghost use Rattle.bech32_refusals.specs.SegwitRules.{IsLengthRefusal, IsProgramLength, max_address_length};
 
 use crate::byte_reader::ByteIter;
 use crate::version::first_version;
@@ -59,14 +59,15 @@ pub(crate) fn validate_program_length(
     segwit::validate_witness_program_length(ByteIter::new(characters).len(), version)
 }
 
-// Tests that there are characters before a checksum, and at most 90 in the whole text.
+// Tests that there are characters before a checksum, and at most `MAX_STRING_LENGTH` in the whole
+// text.
 #[inline]
 pub(crate) fn validate_sizes(
     text_length: usize,
     characters: &[u8],
 ) -> Result<(), SegwitHrpstringError>
     ensures { MatchResult result
-        (λ _. (text_length ≤ 90) × (characters.now ≢ []))
+        (λ _. (text_length ≤ max_address_length) × (characters.now ≢ []))
         (λ e. IsDataRefusal text_length (elements_of characters.now) e) }
 {
     if characters.is_empty() {
@@ -87,7 +88,7 @@ pub(crate) fn data_of_version<'s>(
     requires of_alphabet { is_data characters.now ≡ true }
     requires versioned { IsVersioned (elements_of characters.now) version
         (elements_of (drop 1 characters.now)) }
-    ensures { (n : ℕ) → n ≤ 90 → MatchResult result
+    ensures { (n : ℕ) → n ≤ max_address_length → MatchResult result
         (λ a. IsDataOf n characters.now a.version a.program.now)
         (λ e. IsDataRefusal n (elements_of characters.now) e) }
 {

@@ -144,9 +144,9 @@ impl<'s> CheckedHrpstring<'s> {
     ///
     /// # Errors
     ///
-    /// The first of: no data; a text of more than 90 characters; a witness version above 16;
-    /// padding of more than four bits; padding that is not zero; a program of less than 2 bytes, of
-    /// more than 40, or of neither 20 nor 32 in version 0.
+    /// The first of: no data; a text of more than [`MAX_STRING_LENGTH`] characters; a witness
+    /// version above 16; padding of more than four bits; padding that is not zero; a program of
+    /// less than 2 bytes, of more than 40, or of neither 20 nor 32 in version 0.
     pub fn validate_segwit(self) -> Result<SegwitHrpstring<'s>, SegwitHrpstringError>
         ensures { MatchResult result
             (λ a. IsSegwitOf self.entry a)

@@ -21,6 +21,7 @@ ghost use Rattle.bech32_decode.specs.Segwit.{IsAddressRefusal, IsVersioned, segw
 ghost use Rattle.bech32_decode.specs.SegwitParts.{IsReadIn};
 ghost use Rattle.bech32_decode.specs.Text.{IsInGrammar, IsRefusedAsText};
 ghost use Rattle.bech32_gf.specs.Alphabet.{is_data};
+ghost use Rattle.bech32_refusals.specs.SegwitRules.{max_address_length};
 
 use crate::address_data::{AddressData, data_of_version, validate_sizes};
 use crate::bytes::{BytesError, parts_of_bytes};
@@ -417,8 +418,9 @@ impl<'s> Reading<'s, Bech32m> {
     /// # Errors
     ///
     /// The first of: no data part; a witness version above 16; the checksum; no data before the
-    /// checksum; more than 90 characters; padding of more than four bits; padding that is not zero;
-    /// a program of less than 2 bytes, of more than 40, or of neither 20 nor 32 in version 0.
+    /// checksum; more than [`MAX_STRING_LENGTH`] characters; padding of more than four bits;
+    /// padding that is not zero; a program of less than 2 bytes, of more than 40, or of neither 20
+    /// nor 32 in version 0.
     #[inline]
     pub fn address(&self) -> Result<AddressData<'s>, SegwitHrpstringError>
         ensures { MatchResult result
@@ -431,14 +433,15 @@ impl<'s> Reading<'s, Bech32m> {
         data_of_version(version, characters)
     }
 
-    /// [`Self::address`] of a text of at most 90 characters, for those who have tested the length.
+    /// [`Self::address`] of a text of at most [`MAX_STRING_LENGTH`] characters, for those who have
+    /// tested the length.
     ///
     /// # Errors
     ///
     /// Those of [`Self::address`], in the same order.
     #[inline(always)]
     pub fn short_address(&self) -> Result<AddressData<'s>, SegwitHrpstringError>
-        requires { length self.now.text.now ≤ 90 }
+        requires { length self.now.text.now ≤ max_address_length }
         ensures { MatchResult result
             (λ a. IsReadIn segwit_code self.now.text.now self.now.hrp.now a.version a.program.now)
             (λ e. IsAddressRefusal segwit_code self.now.text.now e) }

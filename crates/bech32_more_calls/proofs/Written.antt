@@ -15,6 +15,7 @@ use Rattle.bech32_calls.specs.declared.refusal.Refusal.{Refusal}
 use Rattle.bech32_calls.specs.declared.refusal.Refusal.TheVariants.{BadNumber, NoAddress, NoRoom}
 use Rattle.bech32_calls.proofs.Addresses.{no_segwit_encode_fault}
 use Rattle.bech32_more_calls.specs.columns.Encoded.{IsEncodedProgram, IsWritten, TextRow}
+use Rattle.bech32_refusals.specs.SegwitRules.{max_address_length}
 
 written-length : (hrp : List ℕ) (version : Fe32) (program text : List ℕ) → IsLowerAddress hrp version program text → length text ≡ address_length hrp program
 written-length hrp version program text a =
@@ -60,11 +61,11 @@ fault hrp version program room more e other (inr (small, inr (is, h))) = inr (sm
 pub encoded-refused : (hrp : List ℕ) (version : ℕ) (program : List ℕ) (room : ℕ) (e : Refusal) → e ≢ NoRoom → IsSegwitEncodeFault hrp version program room e
     → (number : ℕ) → number ≡ number_of e → number ≢ 0 → IsEncodedProgram hrp version program (record { number = number; text = [] })
 encoded-refused hrp version program room e other h number is some =
-    let here : IsSegwitEncodeFault hrp version program 90 e = fault hrp version program room 90 e other h in
+    let here : IsSegwitEncodeFault hrp version program max_address_length e = fault hrp version program room max_address_length e other h in
     record {
       value = λ z. absurd (some z);
       refused = λ nz. record { refusal = e; holds = here; number = is };
-      accepts = λ has. absurd (no_segwit_encode_fault hrp version program 90 e has here);
+      accepts = λ has. absurd (no_segwit_encode_fault hrp version program max_address_length e has here);
       nothing = λ nz. refl;
     }
 

@@ -87,7 +87,7 @@ pub enum CheckedHrpstringError {
     Checksum(ChecksumError),
 }
 
-/// A segwit address would have more than 90 characters: how many.
+/// A segwit address would have more than [`MAX_STRING_LENGTH`] characters: how many.
 #[derive(Clone, Copy, Debug, PartialEq, Eq, Drop, Error)]
 #[error("encoded length {0} exceeds maximum (code length) {max}", max = MAX_STRING_LENGTH)]
 pub struct SegwitCodeLengthError(pub usize);
@@ -113,7 +113,7 @@ pub enum SegwitHrpstringError {
     /// The data part is empty, or nothing is left of it before the checksum.
     #[error("no data found after removing the checksum")]
     NoData,
-    /// It has more than 90 characters: how many.
+    /// It has more than [`MAX_STRING_LENGTH`] characters: how many.
     #[error("encoded length {0} exceeds spec limit {max} chars", max = MAX_STRING_LENGTH)]
     TooLong(usize),
     /// The witness version is above 16.

@@ -2,15 +2,32 @@
 
 ghost use Rattle.std.specs.Prelude.{◌≡◌, ◌↔◌, ◌<◌, ◌≤◌, MatchResult, IsTrue};
 ghost use Rattle.bech32_gf.specs.Fe32.{value};
-ghost use Rattle.bech32_refusals.specs.SegwitRules.{IsProgramLength, IsLengthRefusal};
+ghost use Rattle.bech32_refusals.specs.SegwitRules.{IsProgramLength, IsLengthRefusal, max_witness_version};
 
 use bech32_gf::gf32::Fe32;
 use thiserror::Error;
 
-/// The most characters of a segwit address (BIP-173, Segwit address format).
+/// The most characters of a segwit address (BIP-173, Bech32).
 ///
 /// This is less than the code length of its checksum.
 pub const MAX_STRING_LENGTH: usize = 90;
+
+/// The highest witness version (BIP-173, Segwit address format).
+pub const MAX_WITNESS_VERSION: u8 = 16;
+
+/// The fewest bytes of a witness program (BIP-173, Segwit address format).
+pub const MIN_PROGRAM_LENGTH: usize = 2;
+
+/// The most bytes of a witness program (BIP-173, Segwit address format).
+pub const MAX_PROGRAM_LENGTH: usize = 40;
+
+/// The bytes of a witness program of version 0 that is the hash of a key (BIP-141,
+/// Witness program).
+pub const KEY_HASH_LENGTH: usize = 20;
+
+/// The bytes of a witness program of version 0 that is the hash of a script (BIP-141,
+/// Witness program).
+pub const SCRIPT_HASH_LENGTH: usize = 32;
 
 /// Segwit version 0.
 pub const VERSION_0: Fe32 = Fe32::Q;
@@ -39,7 +56,7 @@ pub enum WitnessLengthError {
 
 /// Whether an element is a witness version: from 0 to 16.
 pub fn is_valid_witness_version(witness_version: Fe32) -> bool
-    ensures { IsTrue result ↔ (value witness_version ≤ 16) }
+    ensures { IsTrue result ↔ (value witness_version ≤ max_witness_version) }
 {
     validate_witness_version(witness_version).is_ok()
 }
@@ -59,10 +76,10 @@ pub fn is_valid_witness_program_length(length: usize, witness_version: Fe32) -> 
 /// The element, where it is above 16.
 pub fn validate_witness_version(witness_version: Fe32) -> Result<(), InvalidWitnessVersionError>
     ensures { MatchResult result
-        (λ _. value witness_version ≤ 16)
-        (λ e. (16 < value witness_version) × (e.0 ≡ witness_version)) }
+        (λ _. value witness_version ≤ max_witness_version)
+        (λ e. (max_witness_version < value witness_version) × (e.0 ≡ witness_version)) }
 {
-    if witness_version.to_u8() > 16 {
+    if witness_version.to_u8() > MAX_WITNESS_VERSION {
         return Err(InvalidWitnessVersionError(witness_version));
     }
     Ok(())
@@ -81,13 +98,13 @@ pub fn validate_witness_program_length(
         (λ _. IsProgramLength version length)
         (λ e. IsLengthRefusal version length e) }
 {
-    if length < 2 {
+    if length < MIN_PROGRAM_LENGTH {
         return Err(WitnessLengthError::TooShort);
     }
-    if length > 40 {
+    if length > MAX_PROGRAM_LENGTH {
         return Err(WitnessLengthError::TooLong);
     }
-    if version.to_u8() == 0 && length != 20 && length != 32 {
+    if version.to_u8() == 0 && length != KEY_HASH_LENGTH && length != SCRIPT_HASH_LENGTH {
         return Err(WitnessLengthError::InvalidSegwitV0);
     }
     Ok(())

@@ -17,9 +17,10 @@ use Rattle.bech32_decode.specs.Segwit.{segwit_code}
 use Rattle.io_traits.specs.Marks.{IsErrorOfLastWrite}
 use Rattle.io_traits.proofs.Through.{writes_through}
 use Rattle.bech32_segwit.specs.Unchecked.{IsFrontOfText, WritesFront, AppendsFront, AppendsPartOfFront, IsErrorOfFront}
+use Rattle.bech32_refusals.specs.SegwitRules.{max_address_length}
 
 -- what was put of a text by one code, where that is the version's
-pub front-from_put : (upper : Bool) (code : Code) (hrp : List ℕ) (version : Fe32) (program old new : List ℕ) (count : ℕ) → code ≡ segwit_code version → length old ≡ 90
+pub front-from_put : (upper : Bool) (code : Code) (hrp : List ℕ) (version : Fe32) (program old new : List ℕ) (count : ℕ) → code ≡ segwit_code version → length old ≡ max_address_length
     → ((text : List ℕ) × IsTextInCase upper code hrp (version ∷ to_fes program) text × IsPutAsFits text old new count) → IsFrontOfText upper hrp version program (take count new)
 front-from_put upper code hrp version program old new count same size (text, is, put) = (
   text,
@@ -27,8 +28,8 @@ front-from_put upper code hrp version program old new count same size (text, is,
   shown_front text old new count put ∙ ap (λ (n : ℕ). take n text) size,
 )
 
-pub bound-from_put : (upper : Bool) (code : Code) (hrp : List ℕ) (elements : List Fe32) (old new : List ℕ) (count : ℕ) → length old ≡ 90
-    → ((text : List ℕ) × IsTextInCase upper code hrp elements text × IsPutAsFits text old new count) → count ≤ 90
+pub bound-from_put : (upper : Bool) (code : Code) (hrp : List ℕ) (elements : List Fe32) (old new : List ℕ) (count : ℕ) → length old ≡ max_address_length
+    → ((text : List ℕ) × IsTextInCase upper code hrp elements text × IsPutAsFits text old new count) → count ≤ max_address_length
 bound-from_put upper code hrp elements old new count size (text, is, put) =
     let counted : count ≡ min (length text) (length old) = put.count_is in
     omega arith
@@ -37,8 +38,8 @@ bound-from_put upper code hrp elements old new count size (text, is, put) =
 pub IsAscii-front : (upper : Bool) (hrp : List ℕ) (version : Fe32) (program front : List ℕ) → list_all is_ascii hrp ≡ true
     → IsFrontOfText upper hrp version program front → IsAscii front
 IsAscii-front upper hrp version program front h (text, (lower, is, e), f) =
-    subst IsAscii (sym (f ∙ ap (take 90) e))
-    (IsAscii-take (in_case upper lower) 90 (IsAscii-in_case upper lower (IsAscii-encoded (segwit_code version) hrp (version ∷ to_fes program) lower h is)))
+    subst IsAscii (sym (f ∙ ap (take max_address_length) e))
+    (IsAscii-take (in_case upper lower) max_address_length (IsAscii-in_case upper lower (IsAscii-encoded (segwit_code version) hrp (version ∷ to_fes program) lower h is)))
 
 -- what a watched writer took of it, the writer took
 pub front_through : {S W : Type 0} (took : W → List ℕ → W → Type 0) (writer : S → W) (s t : S) (upper : Bool) (hrp : List ℕ) (version : Fe32) (program : List ℕ)

@@ -11,7 +11,7 @@ use Rattle.bech32_hrp.specs.Hrp.{lowered}
 use Rattle.bech32_checksum.specs.Encoded.{IsEncodedText}
 use Rattle.bech32_decode.specs.Segwit.{segwit_code, IsLowerAddress, IsAddress}
 use Rattle.bech32_segwit.specs.SegwitEncoding.{HasAddress, address_length, IsSegwitEncodeRefusal}
-use Rattle.bech32_refusals.specs.SegwitRules.{IsProgramLength}
+use Rattle.bech32_refusals.specs.SegwitRules.{IsProgramLength, max_address_length, max_witness_version, max_program_length}
 use Rattle.bech32_segwit.specs.declared.error.EncodeError.{EncodeError}
 use Rattle.bech32_segwit.specs.declared.error.EncodeError.TheVariants.{WitnessVersion, WitnessLength, TooLong, Fmt, Memory}
 use Rattle.bech32_decode.proofs.Addresses.{short, no_length_refusal}
@@ -34,25 +34,25 @@ length-address hrp version program text is =
     omega arith
 
 -- an address of a lawful program can be counted, whatever stands before the separator
-pub no_more_of_part : (part program : List ℕ) → length part < 2 ^ 63 → length program ≤ 40
+pub no_more_of_part : (part program : List ℕ) → length part < 2 ^ 63 → length program ≤ max_program_length
     → min (address_length part program) (2 ^ 64 - 1) ≡ address_length part program
 no_more_of_part part program fits few = let elements : length (to_fes program) ≡ fes_count 0 (length program) = length-to_fes program in omega arith
 
--- an address has at most 90 characters
-pub address_fits : (hrp : List ℕ) (version : Fe32) (program : List ℕ) → HasAddress hrp version program → address_length hrp program ≤ 90
+-- an address has at most max_address_length characters
+pub address_fits : (hrp : List ℕ) (version : Fe32) (program : List ℕ) → HasAddress hrp version program → address_length hrp program ≤ max_address_length
 address_fits hrp version program (text, a) =
     let here : length text ≡ address_length hrp program = length-address hrp version program text a.encoded in
-    let few : length text ≤ 90 = a.text_length in
+    let few : length text ≤ max_address_length = a.text_length in
     omega arith
 
 -- the text is the address, where no rule is broken
-lawful_text : (hrp : List ℕ) (version : Fe32) (program text : List ℕ) → version.value ≤ 16 → IsProgramLength version (length program) → address_length hrp program ≤ 90
+lawful_text : (hrp : List ℕ) (version : Fe32) (program text : List ℕ) → version.value ≤ max_witness_version → IsProgramLength version (length program) → address_length hrp program ≤ max_address_length
     → IsEncodedText (segwit_code version) hrp (version ∷ to_fes program) text → IsLowerAddress hrp version program text
 lawful_text hrp version program text fits program_length few is =
     let size : length text ≡ address_length hrp program = length-address hrp version program text is in
     record { version_fits = fits; program_length = program_length; text_length = omega arith; encoded = is }
 
-pub address_exists : (hrp : List ℕ) (version : Fe32) (program : List ℕ) → version.value ≤ 16 → IsProgramLength version (length program) → address_length hrp program ≤ 90
+pub address_exists : (hrp : List ℕ) (version : Fe32) (program : List ℕ) → version.value ≤ max_witness_version → IsProgramLength version (length program) → address_length hrp program ≤ max_address_length
     → HasAddress hrp version program
 address_exists hrp version program fits program_length few =
     let (text, is) = text_exists (segwit_code version) hrp (version ∷ to_fes program) (targeted version) in
@@ -64,17 +64,17 @@ pub address-from_text : (hrp : List ℕ) (version : Fe32) (program text : List �
 address-from_text hrp version program text (other, a) is =
     let here : length text ≡ address_length hrp program = length-address hrp version program text is in
     let there : length other ≡ address_length hrp program = length-address hrp version program other a.encoded in
-    let few : length other ≤ 90 = a.text_length in
+    let few : length other ≤ max_address_length = a.text_length in
     record { version_fits = a.version_fits; program_length = a.program_length; text_length = omega arith; encoded = is }
 
 -- where there is one, it is not refused
 not_refused : (hrp : List ℕ) (version : Fe32) (program : List ℕ) (e : EncodeError) → HasAddress hrp version program → IsSegwitEncodeRefusal hrp version program e → e ≡ Memory
-not_refused hrp version program (WitnessVersion e) (text, a) r = let over : 16 < version.value = r.0 in let fits = a.version_fits in absurd (omega arith)
+not_refused hrp version program (WitnessVersion e) (text, a) r = let over : max_witness_version < version.value = r.0 in let fits = a.version_fits in absurd (omega arith)
 not_refused hrp version program (WitnessLength e) (text, a) r = absurd (no_length_refusal version (length program) e a.program_length r.1)
 not_refused hrp version program (TooLong e) (text, a) r =
-    let over : 90 < address_length hrp program = r.2 in
+    let over : max_address_length < address_length hrp program = r.2 in
     let there : length text ≡ address_length hrp program = length-address hrp version program text a.encoded in
-    let few : length text ≤ 90 = a.text_length in
+    let few : length text ≤ max_address_length = a.text_length in
     absurd (omega arith)
 not_refused hrp version program (Fmt e) (text, a) r = absurd r
 not_refused hrp version program Memory (text, a) r = refl

@@ -5,7 +5,7 @@ use Rattle.bech32_gf.specs.declared.gf32.Fe32.{Fe32}
 use Rattle.bech32_bits.specs.Bits.{to_fes}
 use Rattle.bech32_hrp.specs.Hrp.{lowered}
 use Rattle.bech32_decode.specs.Segwit.{IsLowerAddress, IsAddress}
-use Rattle.bech32_refusals.specs.SegwitRules.{IsProgramLength, IsLengthRefusal}
+use Rattle.bech32_refusals.specs.SegwitRules.{IsProgramLength, IsLengthRefusal, max_address_length, max_witness_version}
 use Rattle.bech32_segwit.specs.declared.error.EncodeError.{EncodeError}
 use Rattle.bech32_segwit.specs.declared.error.EncodeError.TheVariants.{WitnessVersion}
 use Rattle.bech32_segwit.specs.declared.error.EncodeError.TheVariants.{WitnessLength}
@@ -31,11 +31,11 @@ address_length hrp program = length hrp + 1 + 1 + length (to_fes program) + 6
 -- why an address is not written: the first of three faults, or out of memory where it exists
 abbrev pub IsSegwitEncodeRefusal : List ℕ → Fe32 → List ℕ → EncodeError → Type 0
 IsSegwitEncodeRefusal hrp version program (WitnessVersion e) =
-    (16 < version.value) × (e.0 ≡ version)
+    (max_witness_version < version.value) × (e.0 ≡ version)
 IsSegwitEncodeRefusal hrp version program (WitnessLength e) =
-    (version.value ≤ 16) × IsLengthRefusal version (length program) e
+    (version.value ≤ max_witness_version) × IsLengthRefusal version (length program) e
 IsSegwitEncodeRefusal hrp version program (TooLong e) =
-    (version.value ≤ 16) × IsProgramLength version (length program)
-    × (90 < address_length hrp program) × (e.0 ≡ address_length hrp program)
+    (version.value ≤ max_witness_version) × IsProgramLength version (length program)
+    × (max_address_length < address_length hrp program) × (e.0 ≡ address_length hrp program)
 IsSegwitEncodeRefusal hrp version program (Fmt e) = ⊥
 IsSegwitEncodeRefusal hrp version program Memory = HasAddress hrp version program

@@ -9,13 +9,14 @@ use Rattle.bech32_gf.specs.declared.gf32.Fe32.{Fe32}
 use Rattle.bech32_bits.specs.Bits.{to_fes}
 use Rattle.bech32_encode.specs.Cased.{IsTextInCase}
 use Rattle.bech32_decode.specs.Segwit.{segwit_code}
+use Rattle.bech32_refusals.specs.SegwitRules.{max_address_length}
 
--- the first 90 characters of the text of a version and a program, by Bech32 for
+-- the first max_address_length characters of the text of a version and a program, by Bech32 for
 -- version 0, else by Bech32m
 abbrev pub IsFrontOfText : Bool → List ℕ → Fe32 → List ℕ → List ℕ → Type 0
 IsFrontOfText upper hrp version program front =
     (text : List ℕ) × IsTextInCase upper (segwit_code version) hrp (version ∷ to_fes program) text
-    × (front ≡ take 90 text)
+    × (front ≡ take max_address_length text)
 
 -- a writer took them, and nothing else
 abbrev pub WritesFront : {W : Type 0} → (W → List ℕ → W → Type 0) → W → W → Bool → List ℕ → Fe32

@@ -23,7 +23,7 @@ pub enum EncodeError {
     /// The program is not of a lawful length.
     #[error("witness length: {0}")]
     WitnessLength(WitnessLengthError),
-    /// The address would have more than 90 characters.
+    /// The address would have more than [`MAX_STRING_LENGTH`] characters.
     #[error("encode error: {0}")]
     TooLong(SegwitCodeLengthError),
     /// The formatter failed (never given).

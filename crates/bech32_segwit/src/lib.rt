@@ -14,6 +14,7 @@ ghost use Rattle.bech32_decode.specs.Segwit.{segwit_code, IsLowerAddress, IsAddr
 ghost use Rattle.bech32_decode.specs.Text.{HasHrp};
 ghost use Rattle.bech32_segwit.specs.SegwitDecoding.{IsSegwitDecodeRefusal};
 ghost use Rattle.bech32_segwit.specs.SegwitEncoding.{HasAddress, SpellsEachAddress, address_length, IsSegwitEncodeRefusal};
+ghost use Rattle.bech32_refusals.specs.SegwitRules.{max_address_length};
 
 mod error;
 mod unchecked;
@@ -99,15 +100,16 @@ pub fn decode(alloc: Global, s: &str) -> Result<(Hrp, Fe32, Vec<u8>), DecodeErro
 ///
 /// # Errors
 ///
-/// The length, exactly where it is above 90 (`usize::MAX` where it is above that too).
+/// The length, exactly where it is above [`MAX_STRING_LENGTH`] (`usize::MAX` where it is above that
+/// too).
 pub fn encoded_length(
     hrp: Hrp,
     _witness_version: Fe32,
     witness_program: &[u8],
 ) -> Result<usize, SegwitCodeLengthError>
     ensures { MatchResult result
-        (λ n. (n ≡ address_length (hrp_bytes hrp) «witness_program».now) × (n ≤ 90))
-        (λ e. (90 < address_length (hrp_bytes hrp) «witness_program».now)
+        (λ n. (n ≡ address_length (hrp_bytes hrp) «witness_program».now) × (n ≤ max_address_length))
+        (λ e. (max_address_length < address_length (hrp_bytes hrp) «witness_program».now)
         × (e.0 ≡ min (address_length (hrp_bytes hrp) «witness_program».now) (2 ^ 64 - 1))) }
 {
     encoded_length_of_part(hrp.as_bytes(), witness_program)
@@ -125,8 +127,8 @@ pub fn encoded_length_of_part(
     witness_program: &[u8],
 ) -> Result<usize, SegwitCodeLengthError>
     ensures { MatchResult result
-        (λ n. (n ≡ address_length part.now «witness_program».now) × (n ≤ 90))
-        (λ e. (90 < address_length part.now «witness_program».now)
+        (λ n. (n ≡ address_length part.now «witness_program».now) × (n ≤ max_address_length))
+        (λ e. (max_address_length < address_length part.now «witness_program».now)
         × (e.0 ≡ min (address_length part.now «witness_program».now) (2 ^ 64 - 1))) }
 {
     let length = text_length_of_part::<Bech32>(part, witness_program.len()).saturating_add(1);
@@ -142,7 +144,7 @@ pub fn encoded_length_of_part(
 /// # Errors
 ///
 /// The first of: a witness version above 16; a program of less than 2 bytes, of more than 40, or of
-/// neither 20 nor 32 in version 0; an address of more than 90 characters.
+/// neither 20 nor 32 in version 0; an address of more than [`MAX_STRING_LENGTH`] characters.
 #[inline]
 pub fn address_length_of_part(
     part: &[u8],
@@ -168,7 +170,7 @@ fn text_of_version_in<A: Allocator>(
     program: &[u8],
     size: usize,
 ) -> Result<String<A>, AllocError>
-    requires { (size ≡ address_length (hrp_bytes hrp) «program».now) × (size ≤ 90) }
+    requires { (size ≡ address_length (hrp_bytes hrp) «program».now) × (size ≤ max_address_length) }
     ensures { let elements = version ∷ to_fes «program».now in
         IfOk result
         (λ s. IsEncodedText (segwit_code version) (hrp_bytes hrp) elements (string_bytes s)) }
@@ -205,7 +207,8 @@ fn encoded_in<A: Allocator>(
 /// # Errors
 ///
 /// The first of: a witness version above 16; a program of less than 2 bytes, of more than 40, or of
-/// neither 20 nor 32 in version 0; an address of more than 90 characters; out of memory.
+/// neither 20 nor 32 in version 0; an address of more than [`MAX_STRING_LENGTH`] characters; out of
+/// memory.
 pub fn encode_in<A: Allocator>(
     alloc: A,
     hrp: Hrp,

@@ -5,6 +5,7 @@ ghost use Rattle.std.specs.Fmt.{WritesInCalls};
 ghost use Rattle.std.specs.Io.KnownBytes.{Appends};
 ghost use Rattle.bech32_hrp.specs.HrpBytes.{hrp_bytes};
 ghost use Rattle.bech32_segwit.specs.Unchecked.{IsFrontOfText, WritesFront, AppendsFront, AppendsPartOfFront, IsErrorOfFront};
+ghost use Rattle.bech32_refusals.specs.SegwitRules.{max_address_length};
 
 use crate::VERSION_0;
 use bech32_checksum::{Bech32, Bech32m};
@@ -15,13 +16,13 @@ use bech32_hrp::Hrp;
 use io_traits::{ByteSink, FmtSink, Watched, write_all};
 use std::{fmt, io};
 
-// Puts the first 90 characters of the text by the checksum of the version, and returns how many
-// there are.
+// Puts the first `MAX_STRING_LENGTH` characters of the text by the checksum of the version, and
+// returns how many there are.
 fn put_front(hrp: Hrp, version: Fe32, program: &[u8], upper: bool, buffer: &mut [u8]) -> usize
-    requires { length buffer.old ≡ 90 }
+    requires { length buffer.old ≡ max_address_length }
     ensures front { IsFrontOfText upper (hrp_bytes hrp)
         version «program».now (take result buffer.new) }
-    ensures bound { result ≤ 90 }
+    ensures bound { result ≤ max_address_length }
 {
     if version == VERSION_0 {
         put_front_of_text::<Bech32>(&hrp, Some(version), program, upper, buffer)
@@ -30,9 +31,9 @@ fn put_front(hrp: Hrp, version: Fe32, program: &[u8], upper: bool, buffer: &mut 
     }
 }
 
-/// Writes the first 90 characters of the text of a witness version and a program into a sink of
-/// text, in upper case or in lower case: by Bech32 for version 0, else by Bech32m (BIP-350).
-/// Nothing is tested.
+/// Writes the first [`MAX_STRING_LENGTH`] characters of the text of a witness version and a program
+/// into a sink of text, in upper case or in lower case: by Bech32 for version 0, else by Bech32m
+/// (BIP-350). Nothing is tested.
 ///
 /// # Errors
 ///
@@ -59,8 +60,9 @@ pub fn encode_into_fmt_unchecked<S: FmtSink>(
     sink.write_str(front)
 }
 
-/// Writes the first 90 characters of the text of a witness version and a program into a sink of
-/// bytes, as [`encode_into_fmt_unchecked`] does into a sink of text. Nothing is tested.
+/// Writes the first [`MAX_STRING_LENGTH`] characters of the text of a witness version and a program
+/// into a sink of bytes, as [`encode_into_fmt_unchecked`] does into a sink of text. Nothing is
+/// tested.
 ///
 /// # Errors
 ///
@@ -139,8 +141,9 @@ pub fn encode_to_fmt_unchecked<W: fmt::Write>(
     encode_lower_to_fmt_unchecked(fmt, hrp, witness_version, witness_program)
 }
 
-/// Writes the first 90 characters of the text of a witness version and a program to a `fmt::Write`,
-/// in lower case: by Bech32 for version 0, else by Bech32m (BIP-350). Nothing is tested.
+/// Writes the first [`MAX_STRING_LENGTH`] characters of the text of a witness version and a program
+/// to a `fmt::Write`, in lower case: by Bech32 for version 0, else by Bech32m (BIP-350). Nothing is
+/// tested.
 ///
 /// # Errors
 ///
@@ -158,8 +161,9 @@ pub fn encode_lower_to_fmt_unchecked<W: fmt::Write>(
     front_to_fmt(fmt, hrp, witness_version, witness_program, false)
 }
 
-/// Writes the first 90 characters of the text of a witness version and a program to a `fmt::Write`,
-/// in upper case: by Bech32 for version 0, else by Bech32m (BIP-350). Nothing is tested.
+/// Writes the first [`MAX_STRING_LENGTH`] characters of the text of a witness version and a program
+/// to a `fmt::Write`, in upper case: by Bech32 for version 0, else by Bech32m (BIP-350). Nothing is
+/// tested.
 ///
 /// # Errors
 ///
@@ -192,8 +196,9 @@ pub fn encode_to_writer_unchecked<W: io::Write>(
     encode_lower_to_writer_unchecked(w, hrp, witness_version, witness_program)
 }
 
-/// Writes the first 90 characters of the text of a witness version and a program to an `io::Write`,
-/// in lower case: by Bech32 for version 0, else by Bech32m (BIP-350). Nothing is tested.
+/// Writes the first [`MAX_STRING_LENGTH`] characters of the text of a witness version and a program
+/// to an `io::Write`, in lower case: by Bech32 for version 0, else by Bech32m (BIP-350). Nothing is
+/// tested.
 ///
 /// # Errors
 ///
@@ -213,8 +218,9 @@ pub fn encode_lower_to_writer_unchecked<W: io::Write>(
     front_to_writer(w, hrp, witness_version, witness_program, false)
 }
 
-/// Writes the first 90 characters of the text of a witness version and a program to an `io::Write`,
-/// in upper case: by Bech32 for version 0, else by Bech32m (BIP-350). Nothing is tested.
+/// Writes the first [`MAX_STRING_LENGTH`] characters of the text of a witness version and a program
+/// to an `io::Write`, in upper case: by Bech32 for version 0, else by Bech32m (BIP-350). Nothing is
+/// tested.
 ///
 /// # Errors
 ///

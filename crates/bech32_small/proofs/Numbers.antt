@@ -23,6 +23,7 @@ use Rattle.bech32_calls.specs.Segwit.{IsSegwitDecodeFault}
 use Rattle.bech32_calls.specs.declared.refusal.Refusal.{Refusal}
 use Rattle.bech32_calls.proofs.Addresses.{unread_address}
 use Rattle.bech32_calls.specs.declared.refusal.Refusal.TheVariants.{NotUtf8, BadNumber, BadElement, NoRoom, NoCorrection, Memory, Hrp, TooLong, Text, Checksum, Padding, NoAddress, Address}
+use Rattle.bech32_refusals.specs.SegwitRules.{max_address_length}
 
 -- what is said of a refusal is said of its number
 pub numbered : {P Q : Refusal → Type 0} → (n : ℕ) → ((e : Refusal) → P e → Q e) → IsNumberOf P n → IsNumberOf Q n
@@ -97,7 +98,7 @@ pub not_zero : {P : Refusal → Type 0} → (n : ℕ) → IsNumberOf P n → n �
 not_zero n h none = omega (arith, some_number h.refusal, h.number, none)
 
 -- a text that is not read is no address, by the same number
-module _ (text : List ℕ) (m n k : ℕ) (few : length text ≤ 90) where
+module _ (text : List ℕ) (m n k : ℕ) (few : length text ≤ max_address_length) where
   of_refusal : (e : Refusal) → IsTextFault text e → k ≡ number_of e → IsNumberOf (IsSegwitDecodeFault text m n) k
   of_refusal NotUtf8 h is = record { refusal = NotUtf8; holds = h; number = is }
   of_refusal (Text e) h is = record { refusal = Address (Unchecked e); holds = unread_address text m n e few h; number = is }
@@ -106,7 +107,7 @@ module _ (text : List ℕ) (m n k : ℕ) (few : length text ≤ 90) where
   pub unread_number : IsNumberOf (IsTextFault text) k → IsNumberOf (IsSegwitDecodeFault text m n) k
   unread_number h = of_refusal h.refusal h.holds h.number
 
-pub read_number : {R : Type 0} (P : R → Type 0) (text : List ℕ) (read : Result R ℕ) → length text ≤ 90 → MatchResult read P (λ n. IsNumberOf (IsTextFault text) n)
-    → MatchResult read (λ r. P r × (length text ≤ 90)) (λ n. (m k : ℕ) → IsNumberOf (IsSegwitDecodeFault text m k) n)
+pub read_number : {R : Type 0} (P : R → Type 0) (text : List ℕ) (read : Result R ℕ) → length text ≤ max_address_length → MatchResult read P (λ n. IsNumberOf (IsTextFault text) n)
+    → MatchResult read (λ r. P r × (length text ≤ max_address_length)) (λ n. (m k : ℕ) → IsNumberOf (IsSegwitDecodeFault text m k) n)
 read_number P text (Ok r) few h = (h, few)
 read_number P text (Err n) few h = λ m k. unread_number text m k n few h

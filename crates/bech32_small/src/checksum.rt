@@ -1,5 +1,7 @@
 //! The numbers that stand for checksums, and what these differ in.
 
+use bech32::{Bech32, Checksum};
+
 /// The number of Bech32 (BIP-173).
 pub const BECH32: u32 = 1;
 
@@ -19,10 +21,7 @@ pub const TARGET: u32 = 1;
 pub const BECH32M_TARGET: u32 = 0x2bc830a3;
 
 /// The most characters of a text.
-pub const MAX_TEXT_LENGTH: usize = 1023;
-
-/// The most characters of a long text.
-pub const MAX_LONG_TEXT_LENGTH: usize = 7089;
+pub const MAX_TEXT_LENGTH: usize = Bech32::CODE_LENGTH;
 
 /// The characters of a checksum.
 pub const LENGTH: usize = 6;

@@ -15,11 +15,11 @@ ghost use Rattle.bech32_small.specs.Target.{PacksTarget};
 
 use crate::checksum::{
     BAD_NUMBER, BECH32, BECH32M, BECH32M_TARGET, LENGTH, LONG_BECH32, LONG_BECH32M,
-    MAX_LONG_TEXT_LENGTH, MAX_TEXT_LENGTH, NO_CHECKSUM, NO_ROOM, TARGET, TEXT_TOO_LONG,
-    WRONG_CHECKSUM,
+    MAX_TEXT_LENGTH, NO_CHECKSUM, NO_ROOM, TARGET, TEXT_TOO_LONG, WRONG_CHECKSUM,
 };
 use crate::elements::put_bytes;
 use crate::input::read;
+use bech32::MAX_LONG_TEXT_LENGTH;
 use bech32_calls::refusal::Refusal;
 use bech32_decode::data_bytes_count;
 use bech32_encode::put_at_front;

@@ -1,6 +1,7 @@
 //! Encodes bytes.
 
 ghost use Rattle.std.specs.Prelude.{◌≡◌, ◌≤◌, length, IfOk, IfErr, OnErr};
+ghost use Rattle.bech32.specs.Long.{max_long_text_length};
 ghost use Rattle.bech32_checksum.specs.Code.{Code};
 ghost use Rattle.bech32_calls.specs.Checksums.{ForTexts, IsFaultOfTexts};
 ghost use Rattle.bech32_calls.specs.Encode.{PutsText, IsEncodeFault};
@@ -9,11 +10,11 @@ ghost use Rattle.bech32_small.specs.Target.{PacksTarget};
 
 use crate::checksum::{
     BAD_NUMBER, BECH32, BECH32M, BECH32M_TARGET, ENCODED_TOO_LONG, LONG_BECH32, LONG_BECH32M,
-    MAX_LONG_TEXT_LENGTH, MAX_TEXT_LENGTH, NO_ROOM, TARGET,
+    MAX_TEXT_LENGTH, NO_ROOM, TARGET,
 };
 use crate::input::test_part;
 use crate::text::put_in_room;
-use bech32::Bech32m;
+use bech32::{Bech32m, MAX_LONG_TEXT_LENGTH};
 use bech32_encode::text_length_of_part;
 
 // Puts the text by the checksum with a target and a code length, and returns its length.
@@ -25,7 +26,7 @@ fn encoded(
     bytes: &[u8],
     text: &mut [u8],
 ) -> Result<usize, u32>
-    requires { most ≤ 7089 }
+    requires { most ≤ max_long_text_length }
     ensures value { (code : Code) → PacksTarget target code → code.code_length ≡ most
         → IfOk result (λ count. PutsText code hrp.now bytes.now text.old text.new count) }
     ensures refused { (code : Code) → PacksTarget target code → code.code_length ≡ most
@@ -45,7 +46,8 @@ fn encoded(
 }
 
 /// Puts the text of a human-readable part and bytes by the checksum of a number, in lower case, at
-/// the front of a buffer, and returns its length, at most 1023, or 7089 by a long one.
+/// the front of a buffer, and returns its length, at most [`MAX_TEXT_LENGTH`], or
+/// [`MAX_LONG_TEXT_LENGTH`] by a long one.
 ///
 /// # Errors
 ///

@@ -7,6 +7,7 @@ ghost use Rattle.bech32_calls.specs.Faults.{IsNumberOf};
 ghost use Rattle.bech32_calls.specs.Segwit.{PutsAddress, IsSegwitEncodeFault};
 ghost use Rattle.bech32_calls.specs.Segwit.{PutsProgram, IsSegwitDecodeFault};
 ghost use Rattle.bech32_small.specs.Target.{PacksTarget};
+ghost use Rattle.bech32_refusals.specs.SegwitRules.{max_address_length};
 
 use crate::checksum::{ADDRESS_TOO_LONG, BAD_NUMBER, BECH32M_TARGET, NO_ROOM, NOT_UTF8, TARGET};
 use crate::decode::put_parts;
@@ -30,13 +31,14 @@ fn target_of(version: Fe32) -> u32
 }
 
 /// Puts the segwit address of a witness version from 0 to 16 and a program, in lower case, at the
-/// front of a buffer, and returns its length, at most 90.
+/// front of a buffer, and returns its length, at most [`MAX_STRING_LENGTH`].
 ///
 /// # Errors
 ///
 /// The number of the first of: a version above 31; a human-readable part that is not UTF-8, or is
 /// none; a version above 16; a program of less than 2 bytes, of more than 40, or of neither 20 nor
-/// 32 in version 0; an address of more than 90 characters, or of more than the buffer has room for.
+/// 32 in version 0; an address of more than [`MAX_STRING_LENGTH`] characters, or of more than the
+/// buffer has room for.
 pub fn encoded(hrp: &[u8], version: u32, program: &[u8], text: &mut [u8]) -> Result<usize, u32>
     ensures value { IfOk result
         (λ count. PutsAddress hrp.now version program.now text.old text.new count) }
@@ -59,11 +61,12 @@ pub fn encoded(hrp: &[u8], version: u32, program: &[u8], text: &mut [u8]) -> Res
     Ok(put_in_room(target, hrp, Some(element), program, text))
 }
 
-// Why a text of more than 90 characters is no address. Out of line: few texts come here.
+// Why a text of more than `MAX_STRING_LENGTH` characters is no address. Out of line: few texts come
+// here.
 #[cold]
 #[inline(never)]
 fn number_of_long(text: &[u8]) -> u32
-    requires { 90 < length text.now }
+    requires { max_address_length < length text.now }
     ensures { (m n : ℕ) → IsNumberOf (IsSegwitDecodeFault text.now m n) result }
 {
     match text_of(text) {
@@ -72,10 +75,10 @@ fn number_of_long(text: &[u8]) -> u32
     }
 }
 
-// Reads the text of bytes that may be an address: they are at most 90.
+// Reads the text of bytes that may be an address: they are at most `MAX_STRING_LENGTH`.
 fn read_short(text: &[u8]) -> Result<Reading<'_, Bech32m>, u32>
     ensures { MatchResult result
-        (λ r. (r.text.now ≡ text.now) × (length text.now ≤ 90))
+        (λ r. (r.text.now ≡ text.now) × (length text.now ≤ max_address_length))
         (λ e. (m n : ℕ) → IsNumberOf (IsSegwitDecodeFault text.now m n) e) }
 {
     if text.len() > MAX_STRING_LENGTH {

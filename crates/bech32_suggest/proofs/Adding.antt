@@ -16,7 +16,7 @@ use Rattle.bech32_decode.specs.Text.{HasHrp, IsText}
 use Rattle.bech32_decode.proofs.Grammar.{only-from_IsText}
 use Rattle.bech32_suggest.specs.Chance.{most_errors}
 use Rattle.bech32_suggest.specs.Suggestions.{AddsEach, AddsEdits, AddsEditsOfRead, AddsFound, AddsNear, AddsOne, AreFound, AreFoundIn, AreSuggestions, IsAddressUnder, IsMeant, IsTriedText, Suggested, near_bound, suggestion_of}
-use Rattle.bech32_suggest.specs.Typed.{as_read, unread_locations}
+use Rattle.bech32_suggest.specs.Typed.{as_read, unread_locations, max_typed_length}
 
 -- ---- addresses
 
@@ -216,7 +216,7 @@ module _ (hrp typed : List ℕ) where
         (once_all h.first h.second (map (λ m. m.1) h.by_bech32m.near) h.by_bech32m.adds (once_all [] h.first (map (λ m. m.1) h.by_bech32.near) h.by_bech32.adds tt))
 
 -- what is found for a typed text that was read is suggested
-pub suggested : {V E : Type 0} (typed hrp part data_part : List ℕ) (items : V → List Suggested) (r : Result V E) → length typed ≤ 91 → IsText (as_read typed) part data_part
+pub suggested : {V E : Type 0} (typed hrp part data_part : List ℕ) (items : V → List Suggested) (r : Result V E) → length typed ≤ max_typed_length → IsText (as_read typed) part data_part
     → MatchResult r (λ v. AreFoundIn data_part typed hrp (items v)) (λ _. IsTriedText typed) → MatchResult r (λ v. AreSuggestions typed hrp (items v)) (λ _. IsTriedText typed)
 suggested typed hrp part data_part items (Ok v) short is found = inr (short, (part, data_part, is, found))
 suggested typed hrp part data_part items (Err e) short is tried = tried

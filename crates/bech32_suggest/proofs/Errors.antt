@@ -2,6 +2,7 @@
 use Rattle.std.proofs.Common.{◌≡◌, ℕ, ◌+◌, ◌-◌, ◌<◌, ◌≤◌, Bool, true, false, cond, eqb, ltb, Option, Some, None, refl, ap, subst, arith}
 use Rattle.std.proofs.lemmas.Bool.{agree_below_at, eqb-true, lt-ltb}
 use Rattle.bech32_suggest.specs.Chance.{most_errors, most_safe}
+use Rattle.bech32_suggest.specs.Typed.{max_typed_length}
 
 -- whether it is this number
 abbrev is : ℕ → Option ℕ → Bool
@@ -23,5 +24,5 @@ module _ (unread errors from count : ℕ) (same : (k : ℕ) → k < count → is
 pub of_few : (n unread : ℕ) → n < 10 → most_errors n unread ≡ None
 of_few n unread h = ap (λ (b : Bool). cond b None (cond (ltb 3 unread) None (most_safe n unread))) (lt-ltb n 10 h)
 
-pub of_read : (n : ℕ) → 10 ≤ n → n ≤ 91 → most_errors n 0 ≡ Some 2
+pub of_read : (n : ℕ) → 10 ≤ n → n ≤ max_typed_length → most_errors n 0 ≡ Some 2
 of_read n low high = at 0 2 10 82 (λ k l. agree_below_at (λ k. is 2 (most_errors (10 + k) 0)) (λ _. true) 82 k refl l) n low (omega (arith, high))

@@ -13,6 +13,7 @@ use Rattle.bech32_decode.proofs.Addresses.{short}
 use Rattle.bech32_decode.proofs.Grammar.{only-from_IsText}
 use Rattle.bech32_decode.proofs.Spelling.{IsSpelled, spelled-lower, spelled-raised}
 use Rattle.bech32_suggest.specs.Forms.{IsAddressInUse, IsFormInUse}
+use Rattle.bech32_refusals.specs.SegwitRules.{key_hash_length, script_hash_length}
 
 same_head : (x y : Fe32) (xs ys : List Fe32) → x ∷ xs ≡ y ∷ ys → x ≡ y
 same_head x y xs ys e = cc
@@ -58,7 +59,7 @@ pub read_in_use : (text part : List ℕ) (v : Fe32) (characters : List ℕ) → 
     → IsFormInUse v (to_bytes (elements_of characters))
 read_in_use text part v characters r (hrp, version, program, is, form) =
     let one = one_form text part v characters r hrp version program is in
-    subst (λ (n : ℕ). ((value v ≡ 0) × ((n ≡ 20) ⊎ (n ≡ 32))) ⊎ ((value v ≡ 1) × (n ≡ 32))) one.1
+    subst (λ (n : ℕ). ((value v ≡ 0) × ((n ≡ key_hash_length) ⊎ (n ≡ script_hash_length))) ⊎ ((value v ≡ 1) × (n ≡ 32))) one.1
     (subst (λ (x : Fe32). IsFormInUse x program) one.0 form)
 
 -- it is an address

@@ -17,7 +17,7 @@ use Rattle.bech32_near.specs.declared.edits.error.EditsError.TheVariants.{Memory
 use Rattle.bech32_suggest.specs.Chance.{most_errors}
 use Rattle.bech32_suggest.specs.Forms.{IsAddressInUse}
 use Rattle.bech32_suggest.specs.Mendings.{common_length, mending_of}
-use Rattle.bech32_suggest.specs.Typed.{as_read, unread_locations}
+use Rattle.bech32_suggest.specs.Typed.{as_read, unread_locations, max_typed_length}
 use Rattle.bech32_suggest.specs.declared.mendings.Mending.{Mending}
 
 -- the bound of Bech32 and Bech32m
@@ -133,17 +133,17 @@ AreFoundIn data_part typed hrp found =
     (found ≡ [])
     (λ errors. AreFound typed hrp errors found)
 
--- the suggestions for a typed text: none for more than 91 characters, since an address has at most
--- 90; else the text is in the grammar as it is read
+-- the suggestions for a typed text: none for more characters than may be typed; else the text is in
+-- the grammar as it is read
 abbrev pub AreSuggestions : List ℕ → List ℕ → List Suggested → Type 0
 AreSuggestions typed hrp found =
-    ((91 < length typed) × (found ≡ []))
-    ⊎ ((length typed ≤ 91) × ((part : List ℕ) × (data_part : List ℕ)
+    ((max_typed_length < length typed) × (found ≡ []))
+    ⊎ ((length typed ≤ max_typed_length) × ((part : List ℕ) × (data_part : List ℕ)
     × IsText (as_read typed) part data_part × AreFoundIn data_part typed hrp found))
 
 -- some texts are tried for the typed one
 pub record IsTriedText (typed : List ℕ) : Type 0 where
-  pub short : length typed ≤ 91
+  pub short : length typed ≤ max_typed_length
   pub part : List ℕ
   pub data_part : List ℕ
   pub grammar : IsText (as_read typed) part data_part
@@ -155,5 +155,5 @@ pub record IsTriedText (typed : List ℕ) : Type 0 where
 -- grammar as it is read; or texts are tried for it, and memory runs out
 abbrev pub IsSuggestRefusal : List ℕ → EditsError → Type 0
 IsSuggestRefusal typed (Refused e) =
-    (length typed ≤ 91) × (text_refusal (as_read typed) ≡ Some e)
+    (length typed ≤ max_typed_length) × (text_refusal (as_read typed) ≡ Some e)
 IsSuggestRefusal typed Memory = IsTriedText typed

@@ -1,5 +1,10 @@
 -- A typed text, as it is read: `?` stands for a character that cannot be read.
-use Rattle.std.specs.Prelude.{◌==◌, if◌then◌else◌, ℕ, List, [], ◌∷◌, map, length}
+use Rattle.std.specs.Prelude.{◌==◌, if◌then◌else◌, ℕ, List, [], ◌∷◌, map, length, ◌+◌}
+use Rattle.bech32_refusals.specs.SegwitRules.{max_address_length}
+
+-- the most characters of a text for which others are tried: one more than those of an address
+abbrev pub max_typed_length : ℕ
+max_typed_length = max_address_length + 1
 
 -- a character as it is read: `?`, which cannot be read, as `0`
 abbrev pub typed_character : ℕ → ℕ

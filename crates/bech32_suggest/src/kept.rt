@@ -12,6 +12,7 @@ use bech32_correction::MendedBy;
 use bech32_decode::SegwitHrpstring;
 use bech32_hrp::Hrp;
 use bech32_near::edits::NearEdit;
+use bech32_refusals::segwit::{KEY_HASH_LENGTH, SCRIPT_HASH_LENGTH};
 use std::alloc::{AllocError, Allocator};
 
 /// What has a text, among what is listed.
@@ -86,7 +87,7 @@ fn has_form_in_use(address: &SegwitHrpstring<'_>) -> bool
 {
     let size = address.byte_iter().len();
     match address.witness_version().to_u8() {
-        0 => size == 20 || size == 32,
+        0 => size == KEY_HASH_LENGTH || size == SCRIPT_HASH_LENGTH,
         1 => size == 32,
         _ => false,
     }

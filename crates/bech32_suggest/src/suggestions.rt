@@ -5,7 +5,7 @@ ghost use Rattle.bech32_decode.specs.Text.{IsInGrammar, text_refusal};
 ghost use Rattle.bech32_hrp.specs.HrpBytes.{hrp_bytes};
 ghost use Rattle.bech32_suggest.specs.Chance.{most_errors};
 ghost use Rattle.bech32_suggest.specs.Suggestions.{AreFound, AreFoundIn, AreSuggestions, IsSuggestRefusal, IsTriedText};
-ghost use Rattle.bech32_suggest.specs.Typed.{as_read, unread_locations};
+ghost use Rattle.bech32_suggest.specs.Typed.{as_read, unread_locations, max_typed_length};
 
 use crate::chance::errors_for;
 use crate::kept::Wanted;
@@ -27,7 +27,7 @@ fn found_in<A: Allocator + Copy>(
     hrp: &Hrp,
 ) -> Result<Vec<Suggestion<String<A>>, A>, AllocError>
     requires text { reading.now.text.now ≡ as_read typed.now }
-    requires lengths { (length typed.now ≤ 91)
+    requires lengths { (length typed.now ≤ max_typed_length)
         × (most_errors (length reading.now.data_part.now) (length (unread_locations typed.now))
         ≡ Some errors) }
     ensures { IfOk result (λ found. AreFound typed.now (hrp_bytes hrp.now) errors
@@ -54,7 +54,7 @@ fn found_for<A: Allocator + Copy>(
     hrp: &Hrp,
 ) -> Result<Vec<Suggestion<String<A>>, A>, AllocError>
     requires text { reading.now.text.now ≡ as_read typed.now }
-    requires short { length typed.now ≤ 91 }
+    requires short { length typed.now ≤ max_typed_length }
     ensures { MatchResult result
         (λ found. AreFoundIn reading.now.data_part.now typed.now (hrp_bytes hrp.now)
         (map (λ s. (string_bytes s.text, (s.mending, s.place))) found.items))
@@ -72,11 +72,12 @@ fn found_for<A: Allocator + Copy>(
 ///
 /// # Errors
 ///
-/// That of [`Reading::new`] for the text with each `?` read as `0`, if it has at most 91 bytes.
+/// That of [`Reading::new`] for the text with each `?` read as `0`, if it has at most
+/// [`MAX_TYPED_LENGTH`] bytes.
 pub fn validate_typed(typed: &str) -> Result<(), UncheckedHrpstringError>
     ensures { MatchResult result
-        (λ _. (91 < length typed.now) ⊎ IsInGrammar (as_read typed.now))
-        (λ e. (length typed.now ≤ 91) × (text_refusal (as_read typed.now) ≡ Some e)) }
+        (λ _. (max_typed_length < length typed.now) ⊎ IsInGrammar (as_read typed.now))
+        (λ e. (length typed.now ≤ max_typed_length) × (text_refusal (as_read typed.now) ≡ Some e)) }
 {
     let mut buffer = [0u8; MAX_TYPED_LENGTH];
     read_typed(typed, &mut buffer)?;
@@ -95,8 +96,8 @@ pub fn suggest_for_reading<A: Allocator + Copy>(
     read: Option<Reading<'_, Bech32m>>,
     hrp: &Hrp,
 ) -> Result<Vec<Suggestion<String<A>>, A>, AllocError>
-    requires { MatchOption read (91 < length typed.now)
-        (λ r. (length typed.now ≤ 91) × (r.text.now ≡ as_read typed.now)) }
+    requires { MatchOption read (max_typed_length < length typed.now)
+        (λ r. (length typed.now ≤ max_typed_length) × (r.text.now ≡ as_read typed.now)) }
     ensures { MatchResult result
         (λ found. AreSuggestions typed.now (hrp_bytes hrp.now)
         (map (λ s. (string_bytes s.text, (s.mending, s.place))) found.items))

@@ -2,14 +2,15 @@
 
 ghost use Rattle.std.specs.Prelude.{◌≡◌, ◌<◌, ◌≤◌, ◌⊎◌, IfOk, MatchOption, MatchResult, Some, length, take};
 ghost use Rattle.bech32_decode.specs.Text.{IsInGrammar, text_refusal};
-ghost use Rattle.bech32_suggest.specs.Typed.{typed_character, as_read, unread_locations};
+ghost use Rattle.bech32_suggest.specs.Typed.{typed_character, as_read, unread_locations, max_typed_length};
 
 use bech32_checksum::Bech32m;
 use bech32_decode::{Reading, UncheckedHrpstringError};
+use bech32_refusals::segwit::MAX_STRING_LENGTH;
 use std::alloc::{AllocError, Allocator};
 
-/// The most characters of a text for which others are tried. An address has at most 90.
-pub const MAX_TYPED_LENGTH: usize = 91;
+/// The most characters of a text for which others are tried: one more than those of an address.
+pub const MAX_TYPED_LENGTH: usize = MAX_STRING_LENGTH + 1;
 
 // A character as it is read: `?`, which stands for one that cannot be read, as `0`.
 #[inline]
@@ -30,21 +31,22 @@ fn put_read(typed: &[u8], buffer: &mut [u8])
     }
 }
 
-/// Reads a typed text in a buffer, each `?` as `0`. None where it has more than 91 bytes: nothing
-/// is tried for it. It allocates nothing.
+/// Reads a typed text in a buffer, each `?` as `0`. None where it has more than
+/// [`MAX_TYPED_LENGTH`] bytes: nothing is tried for it. It allocates nothing.
 ///
 /// # Errors
 ///
-/// That of [`Reading::new`] for the text with each `?` read as `0`, if it has at most 91 bytes.
+/// That of [`Reading::new`] for the text with each `?` read as `0`, if it has at most
+/// [`MAX_TYPED_LENGTH`] bytes.
 pub fn read_typed<'b>(
     typed: &str,
     buffer: &'b mut [u8; MAX_TYPED_LENGTH],
 ) -> Result<Option<Reading<'b, Bech32m>>, UncheckedHrpstringError>
     ensures said { MatchResult result
-        (λ _. (91 < length typed.now) ⊎ IsInGrammar (as_read typed.now))
-        (λ e. (length typed.now ≤ 91) × (text_refusal (as_read typed.now) ≡ Some e)) }
-    ensures read { IfOk result (λ read. MatchOption read (91 < length typed.now)
-        (λ r. (length typed.now ≤ 91) × (r.text.now ≡ as_read typed.now))) }
+        (λ _. (max_typed_length < length typed.now) ⊎ IsInGrammar (as_read typed.now))
+        (λ e. (length typed.now ≤ max_typed_length) × (text_refusal (as_read typed.now) ≡ Some e)) }
+    ensures read { IfOk result (λ read. MatchOption read (max_typed_length < length typed.now)
+        (λ r. (length typed.now ≤ max_typed_length) × (r.text.now ≡ as_read typed.now))) }
 {
     if typed.len() > MAX_TYPED_LENGTH {
         return Ok(None);
@@ -58,7 +60,7 @@ pub fn read_typed<'b>(
 
 /// How many characters of a typed text cannot be read.
 pub(crate) fn count_unreadable(typed: &[u8]) -> usize
-    requires { length typed.now ≤ 91 }
+    requires { length typed.now ≤ max_typed_length }
     ensures { result ≡ length (unread_locations typed.now) }
 {
     let mut count = 0;

@@ -9,7 +9,7 @@ use Rattle.bech32_decode.specs.Acceptance.{IsAccepted}
 use Rattle.bech32_decode.specs.Refusals.{IsChecksumRefusal}
 use Rattle.bech32_decode.specs.Text.{IsText, split_at_last, text_refusal}
 use Rattle.bech32_refusals.specs.declared.error.UncheckedHrpstringError.{UncheckedHrpstringError}
-use Rattle.codex32.specs.Code.{codex32}
+use Rattle.codex32.specs.Code.{codex32, max_length, max_long_length, min_length, min_long_length}
 use Rattle.codex32.specs.declared.error.Codex32Error.{Codex32Error}
 use Rattle.codex32.specs.declared.error.Codex32Error.TheVariants.{Text, Length, Hrp}
 use Rattle.codex32.specs.declared.error.Codex32Error.TheVariants.{Checksum}
@@ -19,13 +19,13 @@ use Rattle.codex32.specs.declared.error.Codex32Error.TheVariants.{Threshold, Sha
 abbrev pub is_ms : List ℕ → Bool
 is_ms hrp = bytes_eq (lowered hrp) (109 ∷ 115 ∷ [])
 
--- whether a string may have this many characters, 48 to 93 (BIP-93, codex32)
+-- whether a string may have this many characters
 abbrev pub is_within : ℕ → Bool
-is_within n = nat_le 48 n && nat_le n 93
+is_within n = nat_le min_length n && nat_le n max_length
 
--- whether a long string may have this many, 125 to 127 (BIP-93, Long codex32 Strings)
+-- whether a long string may have this many
 abbrev pub is_within_long : ℕ → Bool
-is_within_long n = nat_le 125 n && nat_le n 127
+is_within_long n = nat_le min_long_length n && nat_le n max_long_length
 
 -- whether a string of either length may have this many
 abbrev pub is_within_either : ℕ → Bool
@@ -37,14 +37,14 @@ is_threshold c = c == 48 || (nat_le 50 c && nat_le c 57)
 
 -- The text is a codex32 string of these parts: the human-readable part `ms`; in the data part a
 -- threshold, four characters of an identifier, a share index, the payload and the 13 characters of
--- the checksum; the share index of the threshold `0` is `s`; 48 to 93 characters in all (BIP-93,
--- codex32 and Unshared Secret).
+-- the checksum; the share index of the threshold `0` is `s`; as many characters in all as a string
+-- may have (BIP-93, codex32 and Unshared Secret).
 pub record IsString (text hrp : List ℕ) (threshold : ℕ) (identifier : List ℕ) (share_index : ℕ)
     (payload checksum : List ℕ) : Type 0 where
   pub accepted : IsAccepted codex32 text hrp
       (threshold ∷ (identifier ++ (share_index ∷ (payload ++ checksum))))
   pub is_ms : is_ms hrp ≡ true
-  pub long : 48 ≤ length text
+  pub long : min_length ≤ length text
   pub identifier_length : length identifier ≡ 4
   pub checksum_length : length checksum ≡ 13
   pub is_threshold : is_threshold threshold ≡ true

@@ -1,17 +1,18 @@
 //! The checksum of codex32 (BIP-93, Checksum).
 
 ghost use Rattle.std.specs.Prelude.{refl};
-ghost use Rattle.codex32.specs.Code.{codex32};
+ghost use Rattle.codex32.specs.Code.{codex32, max_length};
 ghost use Rattle.codex32.specs.laws.CodeLaws as codes;
 ghost use Rattle.codex32.specs.laws.RootLaws.{base, codex32_roots};
 ghost use Rattle.bech32_gf_ext.specs.Fe1024 as fe1024;
 ghost use Rattle.bech32_checksum.specs.Roots.{HasLawfulRoots};
 
+use crate::lengths::MAX_LENGTH;
 use crate::products::{BASE, WORDS, product_with};
 use bech32::{Checksum, CorrectingChecksum, Fe32, Fe1024};
 
-/// The checksum of codex32: degree 13, for texts of at most 93 characters (BIP-93, Checksum). Four
-/// wrong characters, or eight that cannot be read, have one correction.
+/// The checksum of codex32: degree 13, for texts of at most [`MAX_LENGTH`] characters (BIP-93,
+/// Checksum). Four wrong characters, or eight that cannot be read, have one correction.
 #[derive(Copy, Clone)]
 pub enum Codex32 {}
 
@@ -26,7 +27,7 @@ impl Checksum for Codex32 {
 
     ghost ROOT_EXPONENTS_END = { 16 };
 
-    ghost CODE_LENGTH = { 93 };
+    ghost CODE_LENGTH = { max_length };
 
     ghost CHECKSUM_LENGTH = { 13 };
 
@@ -46,7 +47,7 @@ impl Checksum for Codex32 {
 
     const ROOT_EXPONENTS_END: usize = 16;
 
-    const CODE_LENGTH: usize = 93;
+    const CODE_LENGTH: usize = MAX_LENGTH;
 
     const CHECKSUM_LENGTH: usize = 13;
 

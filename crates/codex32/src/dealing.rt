@@ -8,17 +8,16 @@ ghost use Rattle.codex32.specs.HeaderParts.{threshold_number};
 ghost use Rattle.codex32.specs.Share.{AreSharesOf, IsEither, IsShareOf};
 ghost use Rattle.codex32.specs.Split.{AreBase, IsHeaderOfParts, IsOwnString, IsPayloadString, drawn, drawn_for, first_texts, split_index, string_size, text_at, text_size};
 ghost use Rattle.codex32.specs.declared.share.Share.{Share as AShare};
+ghost use Rattle.codex32.specs.Code.{max_long_length};
 
 use crate::derivation::derive_into;
 use crate::encoding::{encode_into, encode_payload_into};
 use crate::header::Header;
 use crate::identifier::Identifier;
+use crate::lengths::MAX_LONG_LENGTH;
 use crate::share::Share;
 use crate::threshold::Threshold;
 use bech32::Fe32;
-
-// The most characters of a string.
-const LONGEST: usize = 127;
 
 // The most elements of a payload: those of 64 bytes.
 const MOST_OF_PAYLOAD: usize = 103;
@@ -77,7 +76,7 @@ pub(crate) fn put_own(
     requires shared { threshold_number threshold ≡ 0 → ⊥ }
     requires counted { is_byte_count (length secret.now) || is_long_byte_count (length secret.now)
         ≡ true }
-    requires room { 127 ≤ length room.old }
+    requires room { max_long_length ≤ length room.old }
     ensures own { IsOwnString threshold identifier secret.now (take result room.new) }
     ensures size { result ≡ text_size (length secret.now) }
 {
@@ -122,7 +121,7 @@ fn put_drawn(
     let elements = &mut payload[..random.len()];
     put_low_bits(elements, random);
     let header = header_at(threshold, identifier, index_of(j));
-    let mut room = [0u8; LONGEST];
+    let mut room = [0u8; MAX_LONG_LENGTH];
     let Ok(count) = encode_payload_into(&mut room, &header, elements) else {
         unreachable!()
     };
@@ -192,7 +191,7 @@ fn put_derived_at(texts: &mut [u8], j: usize, base: &[Share<'_>], index: Fe32)
     ensures before { (i : ℕ) → i < j → text_at (3 + size_of base.now) texts.new i
         ≡ text_at (3 + size_of base.now) texts.old i }
 {
-    let mut room = [0u8; LONGEST];
+    let mut room = [0u8; MAX_LONG_LENGTH];
     let Ok(count) = derive_into(&mut room, base, index) else {
         unreachable!()
     };

@@ -9,6 +9,7 @@ ghost use Rattle.codex32_steady.specs.shares.Shares.{IsGiven};
 ghost use Rattle.codex32.specs.Derive.{DoContradict, IsDeriveIntoRefusal, IsDeriveRefusal, IsDerivedOrRefused, IsDerivedString, IsOfSet, IsSetRefusal, IsStringOfSet, IsWholeSet, count_of, indices_of, rows_of, size_of};
 ghost use Rattle.codex32.specs.HeaderParts.{points_of, secret_index};
 ghost use Rattle.codex32.specs.ShareParts.{ms};
+ghost use Rattle.codex32.specs.Code.{max_long_length};
 
 use crate::error::DeriveError;
 use crate::share::Share;
@@ -122,7 +123,7 @@ fn put_derived_text(
     shares: &[Share<'_>],
     index: Fe32,
 ) -> Result<usize, DeriveError>
-    requires { 127 ≤ length buffer.old }
+    requires { max_long_length ≤ length buffer.old }
     ensures outcome { MatchResult result
         (λ n. IsWholeSet shares.now index × IsDerivedString shares.now index (take n buffer.new))
         (λ e. IsDeriveIntoRefusal shares.now index e) }
@@ -146,7 +147,7 @@ pub fn derive_into(
     shares: &[Share<'_>],
     index: Fe32,
 ) -> Result<usize, DeriveError>
-    requires { 127 ≤ length buffer.old }
+    requires { max_long_length ≤ length buffer.old }
     ensures value { IfOk result (λ n. IsDerivedString shares.now index (take n buffer.new)) }
     ensures string { IfOk result (λ n. IsStringOfSet shares.now index (take n buffer.new)) }
     ensures put { IfOk result (λ n. IsPut (take n buffer.new) buffer.old buffer.new n) }

@@ -5,6 +5,7 @@ ghost use Rattle.bech32_hrp.specs.Hrp.{lowered};
 ghost use Rattle.bech32_detect.specs.Bursts.{DifferInBurst};
 ghost use Rattle.codex32.specs.Detection.{AreSameTextsOrFar};
 ghost use Rattle.codex32.specs.Share.{IsEither};
+ghost use Rattle.codex32.specs.Code.{min_long_length};
 
 use crate::checksum::Codex32;
 use crate::long::LongCodex32;
@@ -20,7 +21,7 @@ pub fn changed_strings_are_no_strings()
     ensures burst { (text other : List ℕ) → IsEither text → IsEither other
         → DifferInBurst 13 (lowered text) (lowered other) → lowered other ≡ lowered text }
     ensures long_burst { (text other : List ℕ) → IsEither text → IsEither other
-        → 125 ≤ length text
+        → min_long_length ≤ length text
         → DifferInBurst 15 (lowered text) (lowered other) → lowered other ≡ lowered text }
 {
     accepted_texts_are_far::<Codex32>();

@@ -9,6 +9,7 @@ ghost use Rattle.codex32.specs.Encode.{IsEncodePayloadRefusal, IsEncodeStringRef
 ghost use Rattle.codex32.specs.Header.{header_elements, identifier_of_header, share_index_of_header, threshold_of_header};
 ghost use Rattle.codex32.specs.Share.{IsShareString};
 ghost use Rattle.codex32.specs.ShareParts.{ms};
+ghost use Rattle.codex32.specs.Code.{max_long_length};
 
 use crate::checksum::Codex32;
 use crate::error::EncodeError;
@@ -67,7 +68,7 @@ fn string_in<Ck: Checksum, A: Allocator>(
 fn put_encoded<Ck: Checksum>(buffer: &mut [u8], elements: &[Fe32]) -> usize
     requires few { length elements.now ≤ 109 }
     requires short { length Ck.code.generator ≤ 15 }
-    requires room { 127 ≤ length buffer.old }
+    requires room { max_long_length ≤ length buffer.old }
     ensures text { IsEncodedText Ck.code ms elements.now (take result buffer.new) }
     ensures put { IsPut (take result buffer.new) buffer.old buffer.new result }
 {
@@ -80,7 +81,7 @@ fn put_encoded<Ck: Checksum>(buffer: &mut [u8], elements: &[Fe32]) -> usize
 fn put_string<Ck: Checksum>(buffer: &mut [u8], header: &Header, payload: &[Fe32]) -> usize
     requires few { length payload.now ≤ 103 }
     requires short { length Ck.code.generator ≤ 15 }
-    requires room { 127 ≤ length buffer.old }
+    requires room { max_long_length ≤ length buffer.old }
     ensures text { IsEncodedText Ck.code ms
         (header_elements header.now ++ payload.now) (take result buffer.new) }
     ensures put { IsPut (take result buffer.new) buffer.old buffer.new result }
@@ -116,7 +117,7 @@ pub fn encode_payload_into(
     header: &Header,
     payload: &[Fe32],
 ) -> Result<usize, EncodeError>
-    requires { 127 ≤ length buffer.old }
+    requires { max_long_length ≤ length buffer.old }
     ensures text { IfOk result (λ n. IsEncodedPayload header.now payload.now (take n buffer.new)) }
     ensures string { IfOk result (λ n. (characters : List ℕ)
         × IsShareString (take n buffer.new) (threshold_of_header header.now)
@@ -220,7 +221,7 @@ fn put_payload(elements: &mut [Fe32], bytes: &[u8])
 ///
 /// [`EncodeError::Size`] for another number of bytes; the buffer is then unchanged.
 pub fn encode_into(buffer: &mut [u8], header: &Header, bytes: &[u8]) -> Result<usize, EncodeError>
-    requires { 127 ≤ length buffer.old }
+    requires { max_long_length ≤ length buffer.old }
     ensures text { IfOk result (λ n. IsEncodedString header.now bytes.now (take n buffer.new)) }
     ensures string { IfOk result (λ n. (payload : List ℕ)
         × IsShareString (take n buffer.new) (threshold_of_header header.now)

@@ -3,12 +3,24 @@
 ghost use Rattle.std.specs.Prelude.{◌≡◌};
 ghost use Rattle.codex32.specs.Lengths.{may_have};
 
+/// The fewest characters of a string (BIP-93, codex32).
+pub const MIN_LENGTH: usize = 48;
+
+/// The most characters of a string (BIP-93, codex32).
+pub const MAX_LENGTH: usize = 93;
+
+/// The fewest characters of a long string (BIP-93, Long codex32 Strings).
+pub const MIN_LONG_LENGTH: usize = 125;
+
+/// The most characters of a long string (BIP-93, Long codex32 Strings).
+pub const MAX_LONG_LENGTH: usize = 127;
+
 /// Which strings are meant.
 #[derive(Clone, Copy)]
 pub enum Lengths {
-    /// Those with the checksum of 13 characters: 48 to 93 (BIP-93, codex32).
+    /// Those with the checksum of 13 characters.
     Short,
-    /// Those with the checksum of 15 characters: 125 to 127 (BIP-93, Long codex32 Strings).
+    /// Those with the checksum of 15 characters.
     Long,
     /// Both.
     Either,
@@ -19,8 +31,8 @@ impl Lengths {
     pub fn allows(self, count: usize) -> bool
         ensures { result ≡ may_have self count }
     {
-        let short = 48 <= count && count <= 93;
-        let long = 125 <= count && count <= 127;
+        let short = MIN_LENGTH <= count && count <= MAX_LENGTH;
+        let long = MIN_LONG_LENGTH <= count && count <= MAX_LONG_LENGTH;
         match self {
             Lengths::Short => short,
             Lengths::Long => long,

@@ -41,6 +41,7 @@ pub use self::error::{
 };
 pub use self::header::{Header, parse_share_index, validate_header};
 pub use self::identifier::Identifier;
+pub use self::lengths::{MAX_LENGTH, MAX_LONG_LENGTH, MIN_LENGTH, MIN_LONG_LENGTH};
 pub use self::long::LongCodex32;
 pub use self::nearest::{propose, propose_in, propose_long, propose_long_in};
 pub use self::share::Share;

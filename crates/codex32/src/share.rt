@@ -15,7 +15,7 @@ use crate::error::{Codex32Error, PayloadError};
 use crate::frame::data_part_of;
 use crate::header::{Header, validate_header};
 use crate::identifier::Identifier;
-use crate::lengths::Lengths;
+use crate::lengths::{Lengths, MAX_LENGTH};
 use crate::long::LongCodex32;
 use crate::threshold::Threshold;
 use bech32::Fe32;
@@ -45,17 +45,17 @@ pub struct Share<'s> {
 fn checksum_length(count: usize) -> usize
     ensures { result ≡ length (code_of_length count).generator }
 {
-    if count <= 93 { 13 } else { 15 }
+    if count <= MAX_LENGTH { 13 } else { 15 }
 }
 
-// Tests the checksum of a text of this many characters: that of 13, or of more than 93 that of 15.
+// Tests the checksum of a text of this many characters: that of 13, or of a long one that of 15.
 fn validate_checksum(count: usize, part: &[u8], data_part: &[u8]) -> Result<(), ChecksumError>
     requires { is_data data_part.now ≡ true }
     ensures { MatchResult result
         (λ _. HasValidChecksum (code_of_length count) count part.now data_part.now)
         (λ e. IsChecksumRefusal (code_of_length count) count part.now data_part.now e) }
 {
-    if count <= 93 {
+    if count <= MAX_LENGTH {
         validate_data_part::<Codex32>(count, part, data_part)
     } else {
         validate_data_part::<LongCodex32>(count, part, data_part)

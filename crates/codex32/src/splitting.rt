@@ -4,14 +4,13 @@ ghost use Rattle.std.specs.Prelude.{◌≡◌, ◌≤◌, ◌*◌, ◌||◌, Non
 ghost use Rattle.bech32_encode.specs.Buffers.{IsPut};
 ghost use Rattle.codex32.specs.Encode.{is_byte_count, is_long_byte_count};
 ghost use Rattle.codex32.specs.Split.{IsSplit, Recovers, are_all_equal, payload_count, random_size, split_refusal, text_size};
+ghost use Rattle.codex32.specs.Code.{max_long_length};
 
 use crate::dealing::{drawn_count, put_all_drawn, put_others, put_own};
 use crate::error::SplitError;
 use crate::identifier::Identifier;
+use crate::lengths::MAX_LONG_LENGTH;
 use crate::threshold::Threshold;
-
-// The most characters of a string.
-const LONGEST: usize = 127;
 
 // The most shares: one at each index but `s`.
 const MOST: usize = 31;
@@ -36,7 +35,7 @@ fn payload_size(count: usize) -> usize
 fn size_of_text(count: usize) -> usize
     requires { is_byte_count count || is_long_byte_count count ≡ true }
     ensures value { result ≡ text_size count }
-    ensures few { result ≤ 127 }
+    ensures few { result ≤ max_long_length }
 {
     let checksum = if count <= 44 { 13 } else { 15 };
     9 + payload_size(count) + checksum
@@ -124,7 +123,7 @@ fn put_split(
     ensures { IsSplit threshold identifier secret.now random.now count
         (text_size (length secret.now)) texts.new }
 {
-    let mut room = [0u8; LONGEST];
+    let mut room = [0u8; MAX_LONG_LENGTH];
     let size = put_own(&mut room, threshold, identifier, secret);
     put_all_drawn(
         texts,

@@ -3,6 +3,7 @@
 ghost use Rattle.std.specs.Prelude.{◌≡◌, ◌↔◌, ◌≤◌, ◌-◌, length, take, drop, slice_index, IfOk, IfErr, IsOk};
 ghost use Rattle.std.specs.Str.{IsAscii};
 ghost use Rattle.codex32.specs.Strings.{IsCodex32, IsStringRefusal};
+ghost use Rattle.codex32.specs.Code.{min_length};
 
 use crate::frame::data_part_of;
 use crate::lengths::Lengths;
@@ -25,7 +26,7 @@ impl<'s> Codex32Str<'s> {
     // The parts of a text with two characters before its separator.
     fn cut(text: &'s str) -> Self
         requires ascii { IsAscii text.now }
-        requires long { 48 ≤ length text.now }
+        requires long { min_length ≤ length text.now }
         ensures threshold { threshold_of result ≡ slice_index text.now 3 }
         ensures identifier { identifier_of result ≡ take 4 (drop 4 text.now) }
         ensures share_index { share_index_of result ≡ slice_index text.now 8 }

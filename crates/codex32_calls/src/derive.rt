@@ -4,14 +4,12 @@ ghost use Rattle.std.specs.Prelude.{◌≡◌, ◌≤◌, ◌==◌, ℕ, length,
 ghost use Rattle.std.specs.List.{sum};
 ghost use Rattle.codex32.specs.Share.{AreSharesOf};
 ghost use Rattle.codex32_calls.specs.Derive.{CanDerive, IsAsked, IsDeriveFault, IsDerivedOf, IsTextsFault, PutsDerived, are_lengths, texts_of};
+ghost use Rattle.codex32.specs.Code.{max_long_length};
 
 use crate::input::{Texts, share_index_of, share_of};
 use crate::output::put_made;
 use crate::refusal::Refusal;
-use codex32::{DeriveError, Share, derive_into};
-
-// The most characters that a string has.
-pub(crate) const LONGEST: usize = 127;
+use codex32::{DeriveError, MAX_LONG_LENGTH, Share, derive_into};
 
 // The most strings of a set.
 const MOST: usize = 32;
@@ -67,7 +65,7 @@ fn put_string_of(
     texts: &[u8],
     lengths: &[usize],
 ) -> Result<usize, Refusal>
-    requires room { 127 ≤ length room.old }
+    requires room { max_long_length ≤ length room.old }
     requires lengths_are { are_lengths texts.now lengths.now ≡ true }
     ensures value { IfOk result (λ n. IsAsked share_index texts.now lengths.now
         × IsDerivedOf share_index (texts_of texts.now lengths.now) (take n room.new)
@@ -92,7 +90,7 @@ pub(crate) fn put_string(
     share_index: u32,
     texts: Texts<'_>,
 ) -> Result<usize, Refusal>
-    requires { 127 ≤ length room.old }
+    requires { max_long_length ≤ length room.old }
     ensures value { IfOk result (λ n.
         IsAsked share_index texts.entry.characters.now texts.entry.lengths.now
         × IsDerivedOf share_index (texts_of texts.entry.characters.now texts.entry.lengths.now)
@@ -118,7 +116,7 @@ pub fn put_derived(share_index: u32, texts: Texts<'_>, text: &mut [u8]) -> Resul
         (length text.old)) }
     ensures same { OnErr result (text.new ≡ text.old) }
 {
-    let mut room = [0u8; LONGEST];
+    let mut room = [0u8; MAX_LONG_LENGTH];
     let count = put_string(&mut room, share_index, texts)?;
     put_made(text, &room[..count])
 }

@@ -7,16 +7,14 @@ ghost use Rattle.bech32_gf.specs.Fe32.{elements_of};
 ghost use Rattle.codex32.specs.Encode.{IsEncodedPayload, is_long_payload_count, is_payload_count};
 ghost use Rattle.codex32_calls.specs.Encode.{CanEncode, IsEncodeStringFault, PutsEncoded};
 ghost use Rattle.codex32_calls.specs.Payload.{CanEncodePayload, IsEncodePayloadFault, PutsEncodedPayload};
+ghost use Rattle.codex32.specs.Code.{max_long_length};
 
 use crate::input::{header_of, validate_payload};
 use crate::output::put_made;
 use crate::refusal::Refusal;
 use bech32::Fe32;
-use codex32::{EncodeError, Header, encode_into, encode_payload_into};
+use codex32::{EncodeError, Header, MAX_LONG_LENGTH, encode_into, encode_payload_into};
 use codex32_steady::put_elements;
-
-// The most characters that a string has.
-const LONGEST: usize = 127;
 
 // The most characters that a payload has.
 const MOST: usize = 103;
@@ -38,7 +36,7 @@ pub fn put_encoded(
     ensures same { OnErr result (text.new ≡ text.old) }
 {
     let header = header_of(threshold, identifier, share_index)?;
-    let mut room = [0u8; LONGEST];
+    let mut room = [0u8; MAX_LONG_LENGTH];
     let count = encode_into(&mut room, &header, bytes)?;
     put_made(text, &room[..count])
 }
@@ -46,7 +44,7 @@ pub fn put_encoded(
 // Puts the string of a header and the characters of a payload at the front of a buffer, and returns
 // its length.
 fn put_payload(buffer: &mut [u8], header: &Header, characters: &[u8]) -> Result<usize, EncodeError>
-    requires room { 127 ≤ length buffer.old }
+    requires room { max_long_length ≤ length buffer.old }
     requires of_alphabet { is_data characters.now ≡ true }
     ensures text { IfOk result (λ n. IsEncodedPayload header.now (elements_of characters.now)
         (take n buffer.new)) }
@@ -85,7 +83,7 @@ pub fn put_encoded_payload(
 {
     let header = header_of(threshold, identifier, share_index)?;
     validate_payload(payload)?;
-    let mut room = [0u8; LONGEST];
+    let mut room = [0u8; MAX_LONG_LENGTH];
     let count = put_payload(&mut room, &header, payload)?;
     put_made(text, &room[..count])
 }

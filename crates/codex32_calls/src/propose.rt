@@ -5,17 +5,18 @@ ghost use Rattle.std.specs.Str.{IsUtf8};
 ghost use Rattle.caller_memory.specs.Memory.{LeavesMemory, memory_size};
 ghost use Rattle.codex32_calls.specs.Nearest.{IsNearest, IsNearestStringRefusal, damaged_refusal};
 ghost use Rattle.codex32_calls.specs.Propose.{CanPropose, IsProposeFault, PutsNearest};
+ghost use Rattle.codex32.specs.Code.{max_long_length};
 
 use crate::input::text_of;
 use crate::output::put_made;
 use crate::refusal::Refusal;
 use arrayvec::ArrayString;
 use caller_memory::{Lent, Memory};
-use codex32::{Codex32Error, propose_in, propose_long_in, validate_damaged, validate_damaged_long};
+use codex32::{
+    Codex32Error, MAX_LONG_LENGTH, propose_in, propose_long_in, validate_damaged,
+    validate_damaged_long,
+};
 use std::alloc::Allocator;
-
-// The most characters that a string has.
-const LONGEST: usize = 127;
 
 /// Which strings are meant.
 #[derive(Clone, Copy)]
@@ -27,8 +28,8 @@ pub enum Kind {
 }
 
 // A copy, in place, of a text that is at most as long as a string.
-fn in_place(text: &str) -> ArrayString<LONGEST>
-    requires { length text.now ≤ 127 }
+fn in_place(text: &str) -> ArrayString<MAX_LONG_LENGTH>
+    requires { length text.now ≤ max_long_length }
     ensures { result.bytes ≡ text.now }
 {
     let mut copy = ArrayString::new();
@@ -56,7 +57,7 @@ fn proposed_in<A: Allocator + Copy>(
 ) -> Result<Option<String<A>>, Codex32Error>
     ensures value { IfOk result (λ answer. MatchOption answer
         ((nearest : List ℕ) → IsNearest kind text.now nearest → ⊥)
-        (λ s. IsNearest kind text.now (string_bytes s) × (length (string_bytes s) ≤ 127))) }
+        (λ s. IsNearest kind text.now (string_bytes s) × (length (string_bytes s) ≤ max_long_length))) }
     ensures refused { MatchResult result
         (λ _. damaged_refusal kind text.now ≡ None)
         (λ e. IsNearestStringRefusal kind text.now e) }
@@ -72,7 +73,7 @@ fn nearest_in<A: Allocator + Copy>(
     alloc: A,
     kind: Kind,
     text: &str,
-) -> Result<ArrayString<LONGEST>, Refusal>
+) -> Result<ArrayString<MAX_LONG_LENGTH>, Refusal>
     requires { IsUtf8 text.now }
     ensures value { IfOk result (λ nearest. IsNearest kind text.now nearest.bytes) }
     ensures refused { IfErr result (λ e. (room : ℕ) → IsProposeFault kind text.now room e) }
@@ -89,7 +90,7 @@ fn nearest_with(
     memory: &mut Memory,
     kind: Kind,
     text: &str,
-) -> Result<ArrayString<LONGEST>, Refusal>
+) -> Result<ArrayString<MAX_LONG_LENGTH>, Refusal>
     requires { IsUtf8 text.now × (damaged_refusal kind text.now ≡ None) }
     ensures value { IfOk result (λ nearest. IsNearest kind text.now nearest.bytes) }
     ensures refused { IfErr result (λ e. (room : ℕ) → IsProposeFault kind text.now room e) }

@@ -6,10 +6,10 @@ ghost use Rattle.codex32.specs.declared.header.Header.{Header as Head};
 ghost use Rattle.codex32_calls.specs.Recover.{CanRecover, IsRecoverFault, PutsRecovered};
 ghost use Rattle.codex32_calls.specs.Share.{CanReadShare, IsShareFault, PutsPayload};
 
-use crate::derive::{LONGEST, put_string};
+use crate::derive::put_string;
 use crate::input::Texts;
 use crate::refusal::Refusal;
-use codex32::Share;
+use codex32::{MAX_LONG_LENGTH, Share};
 
 // Puts the bytes of a string's payload at the front of a buffer, and returns how many they are.
 fn put_bytes_of(string: &[u8], bytes: &mut [u8]) -> Result<usize, Refusal>
@@ -43,7 +43,7 @@ pub fn put_recovered(texts: Texts<'_>, bytes: &mut [u8]) -> Result<usize, Refusa
         (IsRecoverFault texts.entry.characters.now texts.entry.lengths.now (length bytes.old)) }
     ensures same { OnErr result (bytes.new ≡ bytes.old) }
 {
-    let mut room = [0u8; LONGEST];
+    let mut room = [0u8; MAX_LONG_LENGTH];
     let count = put_string(&mut room, u32::from(b's'), texts)?;
     put_bytes_of(&room[..count], bytes)
 }

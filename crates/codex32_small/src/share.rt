@@ -19,7 +19,9 @@ use crate::letters::in_lower_case;
 use crate::register::{degree_of, has_target};
 use bech32_decode::data_bytes_count;
 use codex32::numbers::codex32_error_number;
-use codex32::{Codex32Error, validate_header};
+use codex32::{
+    Codex32Error, MAX_LENGTH, MAX_LONG_LENGTH, MIN_LENGTH, MIN_LONG_LENGTH, validate_header,
+};
 use codex32_calls::input::text_of;
 use codex32_calls::propose::Kind;
 use codex32_steady::texts::parts::parts_of;
@@ -51,14 +53,19 @@ pub struct ShareParts {
 fn kind_of(count: usize) -> Kind
     ensures { code_of_kind result ≡ code_of_length count }
 {
-    if count <= 93 { Kind::Short } else { Kind::Long }
+    if count <= MAX_LENGTH {
+        Kind::Short
+    } else {
+        Kind::Long
+    }
 }
 
 // Whether a string has this many characters.
 fn is_within(count: usize) -> bool
     ensures { result ≡ is_within_either count }
 {
-    48 <= count && count <= 93 || 125 <= count && count <= 127
+    MIN_LENGTH <= count && count <= MAX_LENGTH
+        || MIN_LONG_LENGTH <= count && count <= MAX_LONG_LENGTH
 }
 
 // Tests the number of characters of a text, and then its human-readable part.

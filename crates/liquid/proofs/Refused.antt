@@ -26,7 +26,7 @@ use Rattle.bech32_decode.proofs.Decoding.{not_valid}
 use Rattle.bech32_decode.proofs.Grammar.{only-from_IsText, text_refusal-none}
 use Rattle.bech32_decode.proofs.Padding.{padded-to_fes}
 use Rattle.bech32_decode.proofs.Spelling.{IsSpelled, spelled-lower, spelled-raised}
-use Rattle.bech32_refusals.specs.SegwitRules.{IsProgramLength}
+use Rattle.bech32_refusals.specs.SegwitRules.{IsProgramLength, max_program_length}
 use Rattle.bech32_refusals.specs.declared.error.ChecksumError.{ChecksumError}
 use Rattle.bech32_refusals.specs.declared.error.PaddingError.{PaddingError}
 use Rattle.bech32_refusals.specs.declared.error.PaddingError.TheVariants.{TooMuch, NonZero}
@@ -77,7 +77,7 @@ module _ (code : Code) (twelve : length code.generator ≡ 12) (longest : code.c
       let whole : length lower ≡ length hrp + 1 + length (version ∷ to_fes bytes) + length code.generator = length-encoded code hrp (version ∷ to_fes bytes) lower e in
       let short : length hrp ≤ 83 = is.not_long in
       let of_key : length key ≡ 33 = a.key_length in
-      let of_program : length program ≤ 40 = a.program_length.not_long in
+      let of_program : length program ≤ max_program_length = a.program_length.not_long in
       let both_bytes : length bytes ≡ length key + length program = length-append key program in
       let count : length (elements_of s.data_part) ≡ length s.data_part = length-map s.data_part element_of in
       let count' : length (elements_of s.data_part) ≡ length fes = ap length s.elements in

@@ -7,6 +7,7 @@ use Rattle.bech32_decode.specs.BeforeChecksum.{IsBeforeChecksum}
 use Rattle.bech32_decode.specs.Segwit.{IsVersioned}
 use Rattle.bech32_decode.specs.Version.{version_of}
 use Rattle.bech32_decode.proofs.Addresses.{versioned-before}
+use Rattle.bech32_refusals.specs.SegwitRules.{max_witness_version}
 
 -- a version is found in characters that are some
 pub some_characters : (characters : List ℕ) (v : Fe32) → version_of (elements_of characters) ≡ Some v → characters ≢ []
@@ -18,7 +19,7 @@ found : (fes : List Fe32) (version : Fe32) (others : List Fe32) → fes ≡ vers
 found fes version others is zero_ = ap version_of is ∙ at version zero_
   where
     at : (v : Fe32) → v.value ≡ 0 → version_of (v ∷ others) ≡ Some v
-    at v e = ap (λ (b : Bool). cond b None (Some v)) (ap (λ (n : ℕ). nat_lt 16 n) e)
+    at v e = ap (λ (b : Bool). cond b None (Some v)) (ap (λ (n : ℕ). nat_lt max_witness_version n) e)
 
 -- where none is found before the checksum of a text that begins with version 0, nothing stands there
 pub none_before : (code : Code) (data_part characters : List ℕ) (version : Fe32) (others : List Fe32) → IsBeforeChecksum code data_part characters

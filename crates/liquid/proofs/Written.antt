@@ -14,6 +14,7 @@ use Rattle.liquid.specs.Writing.{IsConfidentialEncodeRefusal, IsVersionAndLength
 use Rattle.liquid.specs.declared.error.EncodeError.{EncodeError}
 use Rattle.liquid.specs.declared.error.EncodeError.TheVariants.{WitnessVersion, UnsupportedVersion, WitnessLength, Memory}
 use Rattle.liquid.proofs.Spelling.{lowered-address}
+use Rattle.bech32_refusals.specs.SegwitRules.{max_witness_version}
 
 -- a blinding key and a program that were put into a buffer, one behind the other
 pub payload_put : (key program zeros rest : List ℕ) → length key ≡ 33 → take (33 + length program) (take 33 (key ++ zeros) ++ (program ++ rest)) ≡ key ++ program
@@ -35,7 +36,7 @@ lower-from_text code hrp version key program payload text lawful size same is = 
 -- where there is an address, it is not refused
 pub only_memory : (version : Fe32) (n : ℕ) (e : EncodeError) → IsVersionAndLength version n → IsConfidentialEncodeRefusal version n e → e ≡ Memory
 only_memory version n (WitnessVersion v) a r =
-    let over : 16 < version.value = r.0 in
+    let over : max_witness_version < version.value = r.0 in
     let is : version.value ≡ 0 = a.version_is in
     absurd (omega (arith, over, is))
 only_memory version n (UnsupportedVersion v) a r =

@@ -10,7 +10,7 @@ use Rattle.bech32_decode.specs.Refusals.{IsChecksumRefusal}
 use Rattle.bech32_decode.specs.Segwit.{IsVersioned}
 use Rattle.bech32_decode.specs.SegwitPadding.{IsPadded, IsPaddingRefusal}
 use Rattle.bech32_decode.specs.Text.{IsText, text_refusal}
-use Rattle.bech32_refusals.specs.SegwitRules.{IsLengthRefusal}
+use Rattle.bech32_refusals.specs.SegwitRules.{IsLengthRefusal, max_witness_version}
 use Rattle.bech32_refusals.specs.declared.error.ChecksumError.{ChecksumError}
 use Rattle.liquid.specs.declared.error.DecodeError.{DecodeError}
 use Rattle.liquid.specs.declared.error.DecodeError.TheVariants.{Unchecked, NoData}
@@ -23,9 +23,9 @@ use Rattle.liquid.specs.declared.error.DecodeError.TheVariants.{WitnessLength}
 abbrev pub IsOtherVersion : List Fe32 → DecodeError → Type 0
 IsOtherVersion fes NoData = fes ≡ []
 IsOtherVersion fes (InvalidWitnessVersion v) =
-    (others : List Fe32) × (fes ≡ v ∷ others) × (16 < v.value)
+    (others : List Fe32) × (fes ≡ v ∷ others) × (max_witness_version < v.value)
 IsOtherVersion fes (UnsupportedVersion v) =
-    (others : List Fe32) × (fes ≡ v ∷ others) × (0 < v.value) × (v.value ≤ 16)
+    (others : List Fe32) × (fes ≡ v ∷ others) × (0 < v.value) × (v.value ≤ max_witness_version)
 IsOtherVersion fes _ = ⊥
 
 -- why the elements behind a version are not those of a blinding key and a program: the first fault

@@ -4,7 +4,7 @@ use Rattle.bech32_gf.specs.declared.gf32.Fe32.{Fe32}
 use Rattle.bech32_bits.specs.Bits.{fes_count}
 use Rattle.bech32_hrp.specs.Hrp.{lowered}
 use Rattle.bech32_checksum.specs.Code.{Code}
-use Rattle.bech32_refusals.specs.SegwitRules.{IsLengthRefusal, IsProgramLength}
+use Rattle.bech32_refusals.specs.SegwitRules.{IsLengthRefusal, IsProgramLength, max_witness_version}
 use Rattle.liquid.specs.Confidential.{IsConfidential}
 use Rattle.liquid.specs.declared.error.EncodeError.{EncodeError}
 use Rattle.liquid.specs.declared.error.EncodeError.TheVariants.{WitnessVersion}
@@ -24,9 +24,9 @@ confidential_length hrp n = length hrp + 1 + 1 + fes_count 0 (33 + n) + 12
 -- why there is none, for a program of n bytes: the first of three faults; or out of memory where
 -- there is one
 abbrev pub IsConfidentialEncodeRefusal : Fe32 → ℕ → EncodeError → Type 0
-IsConfidentialEncodeRefusal version n (WitnessVersion v) = (16 < version.value) × (v ≡ version)
+IsConfidentialEncodeRefusal version n (WitnessVersion v) = (max_witness_version < version.value) × (v ≡ version)
 IsConfidentialEncodeRefusal version n (UnsupportedVersion v) =
-    (0 < version.value) × (version.value ≤ 16) × (v ≡ version)
+    (0 < version.value) × (version.value ≤ max_witness_version) × (v ≡ version)
 IsConfidentialEncodeRefusal version n (WitnessLength e) =
     (version.value ≡ 0) × IsLengthRefusal version n e
 IsConfidentialEncodeRefusal version n Memory = IsVersionAndLength version n

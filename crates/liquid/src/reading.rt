@@ -15,7 +15,7 @@ use crate::address::{Address, KEY_LENGTH};
 use crate::error::DecodeError;
 use bech32_decode::{CheckedHrpstring, Reading, data_bytes_count};
 use bech32_gf::gf32::Fe32;
-use bech32_refusals::segwit::validate_witness_program_length;
+use bech32_refusals::segwit::{MAX_WITNESS_VERSION, validate_witness_program_length};
 use blech32::Blech32;
 
 // The witness version that a data part begins with, where it is 0.
@@ -31,7 +31,7 @@ fn version_in(data_part: &[u8]) -> Result<Fe32, DecodeError>
     };
     let version = Fe32::from_char_unchecked(*first);
     let number = version.to_u8();
-    if number > 16 {
+    if number > MAX_WITNESS_VERSION {
         return Err(DecodeError::InvalidWitnessVersion(version));
     }
     if number != 0 {

@@ -3,7 +3,7 @@
 ghost use Rattle.std.specs.Prelude.{◌≡◌, ◌≢◌, ◌≤◌, ◌++◌, ℕ, List, length, take, string_bytes, IfErr, IfOk, IsOkUnless, MatchResult};
 ghost use Rattle.bech32_hrp.specs.HrpBytes.{hrp_bytes};
 ghost use Rattle.bech32_encode.specs.Buffers.{IsPut};
-ghost use Rattle.bech32_refusals.specs.SegwitRules.{IsProgramLength};
+ghost use Rattle.bech32_refusals.specs.SegwitRules.{IsProgramLength, script_hash_length};
 ghost use Rattle.blech32.specs.Words.{blech32_code};
 ghost use Rattle.liquid.specs.Confidential.{IsLowerConfidential};
 ghost use Rattle.liquid.specs.Writing.{IsConfidentialEncodeRefusal, IsVersionAndLength, SpellsEachConfidential, confidential_length};
@@ -43,7 +43,7 @@ pub fn validate(witness_version: Fe32, program_length: usize) -> Result<(), Enco
 
 // A blinding key and, behind it, a program, and how many bytes they are.
 fn payload_of(blinding_key: &[u8; 33], program: &[u8]) -> ([u8; 65], usize)
-    requires { length program.now ≤ 32 }
+    requires { length program.now ≤ script_hash_length }
     ensures bytes { take result.1 result.0 ≡ blinding_key.now ++ program.now }
     ensures fits { result.1 ≤ 65 }
 {
@@ -57,7 +57,7 @@ fn payload_of(blinding_key: &[u8; 33], program: &[u8]) -> ([u8; 65], usize)
 /// The number of characters of the confidential address of a human-readable part, given as bytes,
 /// and a program of `program_length` bytes.
 pub fn address_length(part: &[u8], program_length: usize) -> usize
-    requires { program_length ≤ 32 }
+    requires { program_length ≤ script_hash_length }
     ensures { result ≡ confidential_length part.now program_length }
 {
     text_length_of_part::<Blech32>(part, KEY_LENGTH + program_length).saturating_add(1)

@@ -13,6 +13,7 @@ use Rattle.bech32_calls.specs.declared.refusal.Refusal.TheVariants.{BadNumber}
 use Rattle.bech32_more_calls.specs.columns.Arrays.{Fills, HoldsArray, if_wanted, concat_of}
 use Rattle.bech32_more_calls.specs.columns.Rows.{EachRow, HasRows, row_of}
 use Rattle.bech32_more_calls.specs.declared.columns.column.Column.{Column}
+use Rattle.bech32_refusals.specs.SegwitRules.{max_program_length}
 
 -- what is said of a row
 pub record AddressRow : Type 0 where
@@ -68,8 +69,8 @@ pub record IsDecodedText (hrp text : List ℕ) (row : AddressRow) : Type 0 where
   pub value : row.number ≡ 0 → IsWantedAddress hrp text row
   pub other : row.number ≡ 49 → IsOtherAddress hrp text
   pub refused : row.number ≢ 0 → row.number ≢ 49
-      → IsNumberOf (IsSegwitDecodeFault text 83 40) row.number
-  pub accepts : CanDecodeAddress text 83 40 → (row.number ≡ 0) ⊎ (row.number ≡ 49)
+      → IsNumberOf (IsSegwitDecodeFault text 83 max_program_length) row.number
+  pub accepts : CanDecodeAddress text 83 max_program_length → (row.number ≡ 0) ⊎ (row.number ≡ 49)
   pub nothing : row.number ≢ 0
       → (row.version ≡ 0) × (row.hrp_length ≡ 0) × (row.program ≡ [])
 

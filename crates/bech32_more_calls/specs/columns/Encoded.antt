@@ -9,6 +9,7 @@ use Rattle.bech32_calls.specs.Segwit.{HasRoomFor, IsSegwitEncodeFault}
 use Rattle.bech32_more_calls.specs.columns.Arrays.{Fills, HoldsArray, concat_of}
 use Rattle.bech32_more_calls.specs.columns.Rows.{EachRow, row_of}
 use Rattle.bech32_more_calls.specs.declared.columns.column.Column.{Column}
+use Rattle.bech32_refusals.specs.SegwitRules.{max_address_length}
 
 -- what is put of a row
 pub record TextRow : Type 0 where
@@ -21,13 +22,13 @@ pub record IsWritten (hrp : List ℕ) (version : ℕ) (program text : List ℕ) 
   pub small : version ≤ 31
   pub is_address : IsLowerAddress hrp (element version) program text
 
--- what is put of a program: an address has at most 90 characters
+-- what is put of a program: an address has at most max_address_length characters
 pub record IsEncodedProgram (hrp : List ℕ) (version : ℕ) (program : List ℕ) (row : TextRow)
     : Type 0 where
   pub value : row.number ≡ 0 → IsWritten hrp version program row.text
   pub refused : row.number ≢ 0
-      → IsNumberOf (IsSegwitEncodeFault hrp version program 90) row.number
-  pub accepts : HasRoomFor hrp version program 90 → row.number ≡ 0
+      → IsNumberOf (IsSegwitEncodeFault hrp version program max_address_length) row.number
+  pub accepts : HasRoomFor hrp version program max_address_length → row.number ≡ 0
   pub nothing : row.number ≢ 0 → row.text ≡ []
 
 -- the same of a row

@@ -147,12 +147,11 @@ fn accepted(text: &str) -> [bool; 2] {
 }
 
 // The sizes by each path.
-const SIZES: [usize; 5] = [
+const SIZES: [usize; 4] = [
     primitives::NO_ALLOC_MAX_LENGTH,
     primitives::correction::NO_ALLOC_MAX_LENGTH,
     primitives::correction::MAX_DEGREE,
     primitives::decode::MAX_DEGREE,
-    primitives::segwit::MAX_STRING_LENGTH,
 ];
 
 // Whether parts are this text.
@@ -166,7 +165,7 @@ fn items_by_each_path(rt: HostRuntime) {
     same(&rt, &checksums(rt.alloc()), &[true; 3]);
     let found = [accepted("a12uel5l"), accepted("a1lqfn3a")];
     same(&rt, &found, &[[true, false], [false, true]]);
-    same(&rt, &SIZES, &[7, 7, 25, 25, 90]);
+    same(&rt, &SIZES, &[7, 7, 25, 25]);
     let parts = [
         are_part([hrp::BC, primitives::hrp::BC], "bc"),
         are_part([hrp::TB, primitives::hrp::TB], "tb"),

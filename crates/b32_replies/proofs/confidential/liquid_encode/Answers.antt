@@ -3,6 +3,7 @@ use Rattle.std.proofs.lemmas.Result.{err_from_is_err_and}
 use Rattle.liquid.specs.Writing.{IsConfidentialEncodeRefusal, IsVersionAndLength}
 use Rattle.b32_replies.proofs.LongAnswers.{liquid-bad_hex, liquid-bad_hrp, liquid-bad_number, liquid-no_key, liquid-refused, liquid-text}
 use Rattle.b32_replies.proofs.confidential.liquid_encode.Goals as goal
+use Rattle.bech32_refusals.specs.SegwitRules.{max_program_length}
 
 pub returns-in_default-clause-answer : goal.returns-in_default-clause-answer
 returns-in_default-clause-answer c = (liquid-bad_number c.args.words.0.now c.args.words.1.0.now c.args.words.1.1.0.now c.args.words.1.1.1.now c.in_default.ensures, refl)
@@ -37,13 +38,13 @@ returns-in-Err-clause-answer c =
 pub append_address-requires-clause-lawful : goal.append_address-requires-clause-lawful
 append_address-requires-clause-lawful c =
     let (bytes, is_hex, size, there) = c.in_ok-size.ensures.put in
-    let fits : c.in_ok-size.size ≤ 40 = c.in_default-validate.ensures.program_length.not_long in
+    let fits : c.in_ok-size.size ≤ max_program_length = c.in_default-validate.ensures.program_length.not_long in
     subst (λ (n : ℕ). IsVersionAndLength c.in-Some.version n) (size ∙ ap length (sym (there fits))) c.in_default-validate.ensures
 
 pub returns-clause-answer : goal.returns-clause-answer
 returns-clause-answer c =
     let (bytes, is_hex, size, there) = c.in_ok-size.ensures.put in
-    let fits : c.in_ok-size.size ≤ 40 = c.in_default-validate.ensures.program_length.not_long in
+    let fits : c.in_ok-size.size ≤ max_program_length = c.in_default-validate.ensures.program_length.not_long in
     let (text, is, added) = c.append_address.ensures.text in (
       codes "ok " ++ text,
       liquid-text c.args.words.0.now c.args.words.1.0.now c.args.words.1.1.0.now c.args.words.1.1.1.now c.in-Some.version c.in-Some.ensures c.in_ok-key.key c.in_ok-key.ensures bytes is_hex text c.in_ok-hrp.ensures.0

@@ -9,6 +9,7 @@ use Rattle.line_program.proofs.Pieces.{two-pieces}
 use Rattle.b32_replies.specs.Reply.{IsEncodedAddressFault}
 use Rattle.b32_replies.proofs.SegwitReplies.{says-bad_hrp, says-address, says-no_address}
 use Rattle.b32_replies.proofs.segwit_encode.append_address.Goals as goal
+use Rattle.bech32_refusals.specs.SegwitRules.{max_address_length}
 
 pub returns-in_err-hrp-clause-answer : goal.returns-in_err-hrp-clause-answer
 returns-in_err-hrp-clause-answer c = λ word hex is some.
@@ -31,7 +32,7 @@ returns-clause-answer c = λ word hex is some.
     let (text, is_text, added) = c.append_by_version.ensures.text in
     let has : HasAddress c.args.hrp.now c.args.version c.args.program.now = rw hrp at c.in_ok-count.ensures.0 in
     let encoded : IsEncodedText (segwit_code c.args.version) c.args.hrp.now (c.args.version ∷ to_fes c.args.program.now) text = rw hrp at is_text in
-    let size : length text ≤ 90 =
+    let size : length text ≤ max_address_length =
     omega (arith, length-encoded (segwit_code c.args.version) part elements text encoded, length-encoded (segwit_code c.args.version) part elements has.0 has.1.encoded, has.1.text_length) in
     let address : IsLowerAddress c.args.hrp.now c.args.version c.args.program.now text =
     record { version_fits = has.1.version_fits; program_length = has.1.program_length; text_length = size; encoded = encoded } in

@@ -19,14 +19,14 @@ returns-in_err-part_of_word-clause-answer c =
     let (e, is, refused) = c.in_err-part_of_word.ensures in
     rw p.1 (rw (p.2 ∙ is) (says-bad_hrp c.args.hrp.now c.args.version.now c.args.hex.now c.in-Some.version c.in-Some.ensures bytes is_hex e refused, refl))
 
-pub returns-then-size-gt-ROOM-clause-answer : goal.returns-then-size-gt-ROOM-clause-answer
-returns-then-size-gt-ROOM-clause-answer c =
+pub returns-then-size-gt-MAX_PROGRAM_LENGTH-clause-answer : goal.returns-then-size-gt-MAX_PROGRAM_LENGTH-clause-answer
+returns-then-size-gt-MAX_PROGRAM_LENGTH-clause-answer c =
     let (bytes, is_hex, size, there) = c.in_ok-size.ensures.put in
-    let long = c.if-size-gt-ROOM.true in
+    let long = c.if-size-gt-MAX_PROGRAM_LENGTH.true in
     let (e, is, fault) = c.refusal_of_long.ensures c.args.hrp.now bytes (omega (arith, long, size)) in
     rw is (says-no_address c.args.hrp.now c.args.version.now c.args.hex.now c.in-Some.version c.in-Some.ensures bytes is_hex e c.in_ok-part_of_word.ensures.0 fault, refl)
 
 pub returns-clause-answer : goal.returns-clause-answer
 returns-clause-answer c =
     let (bytes, is_hex, size, there) = c.in_ok-size.ensures.put in
-    c.append_address.ensures.answer c.args.version.now c.args.hex.now c.in-Some.ensures (is_hex ∙ ap Some (sym (there c.if-size-gt-ROOM.false)))
+    c.append_address.ensures.answer c.args.version.now c.args.hex.now c.in-Some.ensures (is_hex ∙ ap Some (sym (there c.if-size-gt-MAX_PROGRAM_LENGTH.false)))

@@ -1,6 +1,7 @@
 //! The forms of a call that writes a text, and what each writes.
 
 use bech32::primitives::encode::text_in;
+use bech32::primitives::segwit::MAX_STRING_LENGTH;
 use bech32::segwit::{
     encode_lower_to_fmt_unchecked, encode_lower_to_writer_unchecked, encode_to_fmt_unchecked,
     encode_to_writer_unchecked, encode_upper_to_fmt_unchecked, encode_upper_to_writer_unchecked,
@@ -110,7 +111,7 @@ fn address_by<Ck: Checksum>(rt: &impl Abort, alloc: Global, given: &Given<'_>) -
     text.expect(rt, "memory")
 }
 
-// The text in lower case, of which an address has at most 90 characters.
+// The text in lower case, of which an address has at most `MAX_STRING_LENGTH` characters.
 fn lower_text(rt: &impl Abort, alloc: Global, form: Form, given: &Given<'_>) -> String {
     match form {
         Form::Text | Form::LowerText | Form::UpperText => {
@@ -127,10 +128,10 @@ pub fn written(rt: &impl Abort, alloc: Global, form: Form, given: &Given<'_>) ->
     let mut text = lower_text(rt, alloc, form, given).into_bytes();
     match form {
         Form::UpperText => text.make_ascii_uppercase(),
-        Form::Address | Form::LowerAddress => text.truncate(90),
+        Form::Address | Form::LowerAddress => text.truncate(MAX_STRING_LENGTH),
         Form::UpperAddress => {
             text.make_ascii_uppercase();
-            text.truncate(90);
+            text.truncate(MAX_STRING_LENGTH);
         }
         _ => {}
     }
