@@ -21,8 +21,7 @@ pub mod checksum {
         PackedNull,
     };
     pub use bech32_detect::{
-        accepted_texts_are_far, bursts_are_detected, detects_four, detects_four_in,
-        four_errors_are_detected,
+        accepted_texts_are_far, bursts_are_detected, detects_four, four_errors_are_detected,
     };
 }
 

@@ -2,7 +2,7 @@
 
 use crate::tests::turns::{Answer, Call, Heap, each_refused, wants_of};
 use bech32::hrp::{BC, TB};
-use bech32::primitives::checksum::{PrintError, detects_four_in};
+use bech32::primitives::checksum::{PrintError, detects_four};
 use bech32::primitives::decode::SegwitHrpstringError;
 use bech32::segwit::{self, VERSION_0, VERSION_1};
 use bech32::{
@@ -139,7 +139,7 @@ fn decodes_address(heap: Heap<'_>) -> Answer {
 }
 
 fn detects(heap: Heap<'_>) -> Answer {
-    match detects_four_in::<Bech32, _>(heap, 12) {
+    match detects_four::<Bech32>(heap, 12) {
         Ok(answer) => Answer::of(answer),
         Err(_) => Answer::NoMemory,
     }
