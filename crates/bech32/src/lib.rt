@@ -27,9 +27,7 @@ mod writers;
 pub use bech32_bits::ByteIterExt;
 pub use bech32_block::PrintImpl;
 pub use bech32_checksum::{Bech32, Bech32m, Checksum, CorrectingChecksum, NoChecksum};
-pub use bech32_correction::{
-    CorrectError, CorrectableError, Correction, Mended, correct, correct_in,
-};
+pub use bech32_correction::{CorrectError, CorrectableError, Correction, Mended, correct};
 use bech32_decode::{CheckedHrpstring, CodeLengthError, Reading};
 pub use bech32_encode::Fe32IterExt;
 use bech32_encode::{encode_text, text_length_of_part};

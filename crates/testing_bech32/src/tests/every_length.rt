@@ -2,7 +2,7 @@
 
 use crate::tests::compare::same;
 use bech32::{
-    Bech32, CorrectError, Correction, Hrp, Mended, NearEdit, NearTexts, correct_in, decode, encode,
+    Bech32, CorrectError, Correction, Hrp, Mended, NearEdit, NearTexts, correct, decode, encode,
     near_edits_in, nearest_in,
 };
 use linked_list_allocator::LocalHeap;
@@ -48,7 +48,7 @@ fn mends<C>(said: &Result<Correction<Mended<&LocalHeap>, C>, CorrectError>, text
 
 /// Whether a mistyped text is corrected to this one, with the memory of a heap.
 pub fn is_corrected(heap: &LocalHeap, mistyped: &str, text: &str) -> bool {
-    mends(&correct_in::<Bech32, &LocalHeap>(heap, mistyped, &[]), text)
+    mends(&correct::<Bech32, &LocalHeap>(heap, mistyped, &[]), text)
 }
 
 // Whether this text is among mended ones.

@@ -2,7 +2,7 @@
 
 use crate::tests::compare::same;
 use bech32_checksum::Bech32;
-use bech32_correction::{CorrectError, Correction, NoMemory, correct_in};
+use bech32_correction::{CorrectError, Correction, NoMemory, correct};
 use bech32_near::edits::{EditsError, near_edits_in};
 use bech32_near::nearest_in;
 
@@ -31,7 +31,7 @@ fn said_of_number(count: usize) -> Said {
 
 // What correcting a text says.
 fn corrected(text: &str, erasures: &[usize]) -> Said {
-    match correct_in::<Bech32, NoMemory>(NoMemory, text, erasures) {
+    match correct::<Bech32, NoMemory>(NoMemory, text, erasures) {
         Ok(Correction::Accepted) => Said::Accepted,
         Ok(Correction::Mended(_)) => Said::Found,
         Ok(Correction::Unexplained(_)) => Said::None,

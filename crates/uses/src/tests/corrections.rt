@@ -71,7 +71,7 @@ fn corrects_an_address(rt: HostRuntime) -> Result<(), Fail> {
 
 // How Bech32 corrects a text.
 fn corrected(alloc: Global, text: &str, erasures: &[usize]) -> Option<Mended> {
-    match correct::<Bech32>(alloc, text, erasures) {
+    match correct::<Bech32, _>(alloc, text, erasures) {
         Ok(Correction::Mended(mended)) => Some(mended),
         _ => None,
     }

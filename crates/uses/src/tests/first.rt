@@ -16,7 +16,7 @@ fn encodes_and_decodes(rt: HostRuntime) -> Result<(), Fail> {
 }
 
 fn corrected(alloc: Global, text: &str) -> Option<Mended> {
-    match correct::<Bech32m>(alloc, text, &[]) {
+    match correct::<Bech32m, _>(alloc, text, &[]) {
         Ok(Correction::Mended(mended)) => Some(mended),
         _ => None,
     }
