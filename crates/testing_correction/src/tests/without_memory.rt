@@ -3,8 +3,8 @@
 use crate::tests::compare::same;
 use bech32_checksum::Bech32;
 use bech32_correction::{CorrectError, Correction, NoMemory, correct};
-use bech32_near::edits::{EditsError, near_edits_in};
-use bech32_near::nearest_in;
+use bech32_near::edits::{EditsError, near_edits};
+use bech32_near::nearest;
 
 // What is said of a text.
 #[derive(Clone, Copy, Debug, PartialEq)]
@@ -41,7 +41,7 @@ fn corrected(text: &str, erasures: &[usize]) -> Said {
 
 // What the texts near one say.
 fn near(text: &str, erasures: &[usize], errors: usize) -> Said {
-    match nearest_in::<Bech32, NoMemory>(NoMemory, text, erasures, errors) {
+    match nearest::<Bech32, NoMemory>(NoMemory, text, erasures, errors) {
         Ok(near) => said_of_number(near.texts.len()),
         Err(error) => reply_of(error),
     }
@@ -49,7 +49,7 @@ fn near(text: &str, erasures: &[usize], errors: usize) -> Said {
 
 // What the edits of a text say.
 fn edited(text: &str) -> Said {
-    match near_edits_in::<Bech32, NoMemory>(NoMemory, text) {
+    match near_edits::<Bech32, NoMemory>(NoMemory, text) {
         Ok(near) => said_of_number(near.len()),
         Err(EditsError::Refused(_)) => Said::Refused,
         Err(EditsError::Memory) => Said::Memory,

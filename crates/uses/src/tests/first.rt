@@ -24,7 +24,7 @@ fn corrected(alloc: Global, text: &str) -> Option<Mended> {
 
 // Whether it is the one text with two other characters.
 fn is_near(alloc: Global, text: &str, right: &str) -> bool {
-    match nearest::<Bech32m>(alloc, text, &[], 2) {
+    match nearest::<Bech32m, _>(alloc, text, &[], 2) {
         Ok(near) => near.texts.len() == 1 && near.texts[0].text.as_str() == right,
         Err(_) => false,
     }
