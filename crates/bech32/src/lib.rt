@@ -40,15 +40,13 @@ pub use bech32_near::{NearTexts, nearest, nearest_listings};
 pub use bech32_refusals::{DecodeError, ElementsError, EncodeError, TextError};
 pub use bech32_segwit as segwit;
 use content::{Content, items_in};
-pub use elements::{
-    decode_elements, decode_elements_in, elements_length, encode_elements, encode_elements_in,
-};
+pub use elements::{decode_elements, elements_length, encode_elements};
 pub use error::EncodeIoError;
 pub use long::{LongBech32, LongBech32m};
 /// [`encode`] and [`encode_in`], which write lower case.
 pub use self::{encode as encode_lower, encode_in as encode_lower_in};
 use std::alloc::{Allocator, Global};
-pub use strict::{decode_strict, decode_strict_in};
+pub use strict::decode_strict;
 pub use writers::{
     encode_into_bytes, encode_into_fmt, encode_lower_to_fmt, encode_lower_to_writer, encode_to_fmt,
     encode_to_writer, encode_upper_to_fmt, encode_upper_to_writer,
@@ -78,7 +76,7 @@ fn decoded_in<A: Allocator>(alloc: A, s: &str) -> Result<(Hrp, Vec<u8, A>), Deco
 /// Decodes a text that Bech32m or Bech32 accepts: its human-readable part, in the case of the text,
 /// and the bytes of its data, with memory from `alloc`.
 ///
-/// Bits behind the last whole byte are dropped and not tested: see [`decode_strict_in`] for texts
+/// Bits behind the last whole byte are dropped and not tested: see [`decode_strict`] for texts
 /// that identify something. For a text that [`encode_in`] wrote with Bech32m or Bech32, it returns
 /// the human-readable part, in lower case, and the bytes.
 ///
