@@ -11,7 +11,7 @@ use crate::output::put_made;
 use crate::refusal::Refusal;
 use arrayvec::ArrayString;
 use caller_memory::{Lent, Memory};
-use codex32::{Codex32Error, propose_in, propose_long_in, validate_damaged, validate_damaged_long};
+use codex32::{Codex32Error, propose, propose_long, validate_damaged, validate_damaged_long};
 use std::alloc::Allocator;
 
 // The most characters that a string has.
@@ -62,8 +62,8 @@ fn proposed_in<A: Allocator + Copy>(
         (λ e. IsNearestStringRefusal kind text.now e) }
 {
     match kind {
-        Kind::Short => propose_in(alloc, text),
-        Kind::Long => propose_long_in(alloc, text),
+        Kind::Short => propose(alloc, text),
+        Kind::Long => propose_long(alloc, text),
     }
 }
 

@@ -9,7 +9,7 @@ use bech32::{
     Bech32, Bech32m, Checksum, DecodeError, EncodeError, Fe32, Hrp, PrintImpl, decode_in,
     encode_in, encode_lower_in, encode_upper_in,
 };
-use codex32::{Codex32Error, propose_in};
+use codex32::{Codex32Error, propose};
 use std::alloc::{AllocError, Allocator};
 
 // The program of the first address in BIP-173's examples, and the address; a program of version 1.
@@ -169,7 +169,7 @@ pub fn nearest_is<A: Allocator>(
 
 fn proposes(heap: Heap<'_>) -> Answer {
     let right = "ms10testsxxxxxxxxxxxxxxxxxxxxxxxxxx4nzvca9cmczlw";
-    let nearest = propose_in(heap, "ms1qtestsqxxxxxxxxxxxxxxxxxxxxxxxxq4nzvca9cmczlq");
+    let nearest = propose(heap, "ms1qtestsqxxxxxxxxxxxxxxxxxxxxxxxxq4nzvca9cmczlq");
     nearest_is(nearest, right)
 }
 
