@@ -10,7 +10,7 @@ ghost use Rattle.line_program.specs.Added.{AddsOrRefuses};
 use crate::append::append_decoded;
 use crate::command::ChecksumName;
 use crate::refusal::Refusal;
-use bech32::{Bech32, Bech32m, Checksum, Hrp, TextError, decode_elements_in, decode_strict_in};
+use bech32::{Bech32, Bech32m, Checksum, Hrp, TextError, decode_elements, decode_strict};
 use std::alloc::Allocator;
 
 /// What a text is decoded to.
@@ -34,8 +34,8 @@ fn decoded<Ck: Checksum, A: Allocator>(
         (λ e. IsDecodeByRefusal content Ck.code text.now e) }
 {
     match content {
-        Content::Bytes => decode_strict_in::<Ck, A>(alloc, text),
-        Content::Elements => decode_elements_in::<Ck, A>(alloc, text),
+        Content::Bytes => decode_strict::<Ck, A>(alloc, text),
+        Content::Elements => decode_elements::<Ck, A>(alloc, text),
     }
 }
 

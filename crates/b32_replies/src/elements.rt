@@ -11,7 +11,7 @@ use crate::encode::front_of;
 use crate::hex_word::put_bytes_of_word;
 use crate::long_command::Kind;
 use crate::refusal::Refusal;
-use bech32::{Checksum, Hrp, encode_elements_in};
+use bech32::{Checksum, Hrp};
 use line_program::append;
 use std::alloc::Allocator;
 
@@ -33,7 +33,7 @@ fn text_of_front<Ck: Checksum, A: Allocator>(
         → IsTextOrRefusal (λ s. string_bytes s) Kind.Elements Ck.code (hrp_bytes hrp) values
         result }
 {
-    Ok(encode_elements_in::<Ck, A>(alloc, hrp, front_of(room, size))?)
+    Ok(bech32::encode_elements::<Ck, A>(alloc, hrp, front_of(room, size))?)
 }
 
 /// Adds the text of elements, or leaves all as it was. Memory is asked for only where there is a

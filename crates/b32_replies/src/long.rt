@@ -19,7 +19,7 @@ use crate::part_word::part_of_word;
 use crate::refusal::Refusal;
 use bech32::{
     ElementsError, EncodeError, Hrp, LongBech32, LongBech32m, MAX_LONG_TEXT_LENGTH, TextError,
-    decode_elements_in, decode_strict_in, encode_elements_in, encode_in,
+    decode_elements, decode_strict, encode_elements, encode_in,
 };
 use line_program::append;
 use std::alloc::{AllocError, Allocator};
@@ -94,11 +94,9 @@ fn written<A: Allocator>(
             LongChecksum::LongBech32m => told(encode_in::<LongBech32m, A>(alloc, hrp, values)),
         },
         Kind::Elements => match checksum {
-            LongChecksum::LongBech32 => Ok(encode_elements_in::<LongBech32, A>(
-                alloc, hrp, values,
-            )?),
+            LongChecksum::LongBech32 => Ok(encode_elements::<LongBech32, A>(alloc, hrp, values)?),
             LongChecksum::LongBech32m => {
-                Ok(encode_elements_in::<LongBech32m, A>(alloc, hrp, values)?)
+                Ok(encode_elements::<LongBech32m, A>(alloc, hrp, values)?)
             }
         },
     }
@@ -137,12 +135,12 @@ fn read<A: Allocator>(
     let (checksum, text) = asked;
     match kind {
         Kind::Bytes => match checksum {
-            LongChecksum::LongBech32 => decode_strict_in::<LongBech32, A>(alloc, text),
-            LongChecksum::LongBech32m => decode_strict_in::<LongBech32m, A>(alloc, text),
+            LongChecksum::LongBech32 => decode_strict::<LongBech32, A>(alloc, text),
+            LongChecksum::LongBech32m => decode_strict::<LongBech32m, A>(alloc, text),
         },
         Kind::Elements => match checksum {
-            LongChecksum::LongBech32 => decode_elements_in::<LongBech32, A>(alloc, text),
-            LongChecksum::LongBech32m => decode_elements_in::<LongBech32m, A>(alloc, text),
+            LongChecksum::LongBech32 => decode_elements::<LongBech32, A>(alloc, text),
+            LongChecksum::LongBech32m => decode_elements::<LongBech32m, A>(alloc, text),
         },
     }
 }

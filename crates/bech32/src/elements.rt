@@ -20,7 +20,7 @@ use bech32_encode::put_text;
 use bech32_gf::gf32::Fe32;
 use bech32_hrp::Hrp;
 use bech32_refusals::{ElementsError, TextError};
-use std::alloc::{AllocError, Allocator, Global};
+use std::alloc::{AllocError, Allocator};
 
 /// Puts the elements of characters of the alphabet, in either case, at the front of a buffer that
 /// has room for them, a byte from 0 to 31 for each, and returns how many they are.
@@ -53,7 +53,7 @@ pub fn place_above(values: &[u8]) -> Option<usize>
     position_above(values)
 }
 
-/// The number of characters of the text that [`encode_elements_in`] writes for a human-readable
+/// The number of characters of the text that [`encode_elements`] writes for a human-readable
 /// part, given as bytes, and this many elements.
 ///
 /// Nothing else is tested.
@@ -98,13 +98,13 @@ pub fn put_text_of_elements<Ck: Checksum>(hrp: &Hrp, values: &[u8], buffer: &mut
 /// the case of the text, and the elements before its checksum, a byte from 0 to 31 each.
 ///
 /// In its case, the text is the only one that this checksum accepts for its human-readable part and
-/// its elements; [`encode_elements_in`] writes it from them, in lower case.
+/// its elements; [`encode_elements`] writes it from them, in lower case.
 ///
 /// # Errors
 ///
 /// The first of: the text is not in the grammar; the checksum does not accept it; out of memory for
 /// the elements. None is [`TextError::Padding`].
-pub fn decode_elements_in<Ck: Checksum, A: Allocator>(
+pub fn decode_elements<Ck: Checksum, A: Allocator>(
     alloc: A,
     s: &str,
 ) -> Result<(Hrp, Vec<u8, A>), TextError>
@@ -115,21 +115,6 @@ pub fn decode_elements_in<Ck: Checksum, A: Allocator>(
     ensures back { GivesElementsBack (λ v. v.items) Ck.code s.now result }
 {
     content_in::<Ck, A>(alloc, s, Content::Elements)
-}
-
-/// Decodes as [`decode_elements_in`] does, with memory of the global allocator.
-///
-/// # Errors
-///
-/// Those of [`decode_elements_in`].
-pub fn decode_elements<Ck: Checksum>(alloc: Global, s: &str) -> Result<(Hrp, Vec<u8>), TextError>
-    ensures value { IfOk result (IsOnlyTextOf (λ v. elements_in v.items) Ck.code s.now) }
-    ensures values { IfOk result (λ d. AreValues d.1.items) }
-    ensures accepts { Accepts Ck.code s.now → IsOkUnless result TextError.Memory }
-    ensures refused { IfErr result (IsElementsDecodeRefusal Ck.code s.now) }
-    ensures back { GivesElementsBack (λ v. v.items) Ck.code s.now result }
-{
-    decode_elements_in::<Ck, Global>(alloc, s)
 }
 
 // The length of the text of numbers that are elements, or why they have none.
@@ -164,7 +149,7 @@ fn text_of_length_in<Ck: Checksum, A: Allocator>(
 }
 
 /// Encodes elements, a byte from 0 to 31 each, under a human-readable part, in lower case, with
-/// memory from `alloc`. Given what [`decode_elements_in`] returned for a text, it writes that text
+/// memory from `alloc`. Given what [`decode_elements`] returned for a text, it writes that text
 /// in lower case.
 ///
 /// The elements of bytes are their bits, five at a time, the highest first, with zeros behind the
@@ -174,7 +159,7 @@ fn text_of_length_in<Ck: Checksum, A: Allocator>(
 ///
 /// The first of: the text would have more characters than the code length of the checksum; a byte
 /// is above 31, with the place of the first, counted from 0; out of memory.
-pub fn encode_elements_in<Ck: Checksum, A: Allocator>(
+pub fn encode_elements<Ck: Checksum, A: Allocator>(
     alloc: A,
     hrp: Hrp,
     values: &[u8],
@@ -188,23 +173,4 @@ pub fn encode_elements_in<Ck: Checksum, A: Allocator>(
     let size = length_of_values::<Ck>(&hrp, values)?;
     let text = text_of_length_in::<Ck, A>(alloc, hrp, values, size)?;
     Ok(text)
-}
-
-/// Encodes as [`encode_elements_in`] does, with memory of the global allocator.
-///
-/// # Errors
-///
-/// Those of [`encode_elements_in`].
-pub fn encode_elements<Ck: Checksum>(
-    alloc: Global,
-    hrp: Hrp,
-    values: &[u8],
-) -> Result<String, ElementsError>
-    ensures text { IfOk result (λ s.
-        IsEncodedText Ck.code (hrp_bytes hrp) (elements_in values.now) (string_bytes s)) }
-    ensures fits { IfOk result (λ _. Fits Ck.code (hrp_bytes hrp) values.now) }
-    ensures values { IfOk result (λ _. AreValues values.now) }
-    ensures refused { IfErr result (IsElementsEncodeRefusal Ck.code (hrp_bytes hrp) values.now) }
-{
-    encode_elements_in::<Ck, Global>(alloc, hrp, values)
 }

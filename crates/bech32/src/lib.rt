@@ -27,30 +27,26 @@ mod writers;
 pub use bech32_bits::ByteIterExt;
 pub use bech32_block::PrintImpl;
 pub use bech32_checksum::{Bech32, Bech32m, Checksum, CorrectingChecksum, NoChecksum};
-pub use bech32_correction::{
-    CorrectError, CorrectableError, Correction, Mended, correct, correct_in,
-};
+pub use bech32_correction::{CorrectError, CorrectableError, Correction, Mended, correct};
 use bech32_decode::{CheckedHrpstring, CodeLengthError, Reading};
 pub use bech32_encode::Fe32IterExt;
 use bech32_encode::{encode_text, text_length_of_part};
 pub use bech32_gf::gf32::Fe32;
 pub use bech32_gf_ext::{Fe1024, Fe32768};
 pub use bech32_hrp::Hrp;
-pub use bech32_near::edits::{Change, Edit, EditsError, NearEdit, near_edits, near_edits_in};
+pub use bech32_near::edits::{Change, Edit, EditsError, NearEdit, near_edits};
 pub use bech32_near::search::Listings;
-pub use bech32_near::{NearTexts, nearest, nearest_in, nearest_listings};
+pub use bech32_near::{NearTexts, nearest, nearest_listings};
 pub use bech32_refusals::{DecodeError, ElementsError, EncodeError, TextError};
 pub use bech32_segwit as segwit;
 use content::{Content, items_in};
-pub use elements::{
-    decode_elements, decode_elements_in, elements_length, encode_elements, encode_elements_in,
-};
+pub use elements::{decode_elements, elements_length, encode_elements};
 pub use error::EncodeIoError;
 pub use long::{LongBech32, LongBech32m, MAX_LONG_TEXT_LENGTH};
 /// [`encode`] and [`encode_in`], which write lower case.
 pub use self::{encode as encode_lower, encode_in as encode_lower_in};
 use std::alloc::{Allocator, Global};
-pub use strict::{decode_strict, decode_strict_in};
+pub use strict::decode_strict;
 pub use writers::{
     encode_into_bytes, encode_into_fmt, encode_lower_to_fmt, encode_lower_to_writer, encode_to_fmt,
     encode_to_writer, encode_upper_to_fmt, encode_upper_to_writer,
@@ -80,7 +76,7 @@ fn decoded_in<A: Allocator>(alloc: A, s: &str) -> Result<(Hrp, Vec<u8, A>), Deco
 /// Decodes a text that Bech32m or Bech32 accepts: its human-readable part, in the case of the text,
 /// and the bytes of its data, with memory from `alloc`.
 ///
-/// Bits behind the last whole byte are dropped and not tested: see [`decode_strict_in`] for texts
+/// Bits behind the last whole byte are dropped and not tested: see [`decode_strict`] for texts
 /// that identify something. For a text that [`encode_in`] wrote with Bech32m or Bech32, it returns
 /// the human-readable part, in lower case, and the bytes.
 ///

@@ -21,8 +21,7 @@ pub mod checksum {
         PackedNull,
     };
     pub use bech32_detect::{
-        accepted_texts_are_far, bursts_are_detected, detects_four, detects_four_in,
-        four_errors_are_detected,
+        accepted_texts_are_far, bursts_are_detected, detects_four, four_errors_are_detected,
     };
 }
 
@@ -30,7 +29,7 @@ pub mod checksum {
 pub mod correction {
     pub use bech32_correction::{
         CorrectError, CorrectableError, Correction, Corrector, ErrorIterator, Listing, Mended,
-        NoMemory, bech32_listing, bech32m_listing, correct, correct_in, listing_given, listing_in,
+        NoMemory, bech32_listing, bech32m_listing, correct, listing_given, listing_in,
         listing_of_unchecked, mend, mended_in,
     };
     pub use bech32_poly::fieldvec::NO_ALLOC_MAX_LENGTH;

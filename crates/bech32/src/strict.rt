@@ -9,7 +9,7 @@ use crate::content::{Content, content_in};
 use bech32_checksum::Checksum;
 use bech32_hrp::Hrp;
 use bech32_refusals::TextError;
-use std::alloc::{Allocator, Global};
+use std::alloc::Allocator;
 
 /// Decodes a text that the checksum accepts, with memory from `alloc`: its human-readable part, in
 /// the case of the text, and the bytes of its data.
@@ -23,7 +23,7 @@ use std::alloc::{Allocator, Global};
 ///
 /// The first of: the text is not in the grammar; the checksum does not accept it; more than four
 /// bits stand behind the last whole byte; these are not all zero; out of memory for the data.
-pub fn decode_strict_in<Ck: Checksum, A: Allocator>(
+pub fn decode_strict<Ck: Checksum, A: Allocator>(
     alloc: A,
     s: &str,
 ) -> Result<(Hrp, Vec<u8, A>), TextError>
@@ -33,18 +33,4 @@ pub fn decode_strict_in<Ck: Checksum, A: Allocator>(
     ensures back { GivesBytesBack (λ v. v.items) Ck.code s.now result }
 {
     content_in::<Ck, A>(alloc, s, Content::Bytes)
-}
-
-/// Decodes as [`decode_strict_in`] does, with memory of the global allocator.
-///
-/// # Errors
-///
-/// Those of [`decode_strict_in`].
-pub fn decode_strict<Ck: Checksum>(alloc: Global, s: &str) -> Result<(Hrp, Vec<u8>), TextError>
-    ensures value { IfOk result (IsOnlyTextOf (λ v. to_fes v.items) Ck.code s.now) }
-    ensures accepts { SpellsBytes Ck.code s.now → IsOkUnless result TextError.Memory }
-    ensures refused { IfErr result (IsStrictRefusal Ck.code s.now) }
-    ensures back { GivesBytesBack (λ v. v.items) Ck.code s.now result }
-{
-    decode_strict_in::<Ck, Global>(alloc, s)
 }

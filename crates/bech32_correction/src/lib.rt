@@ -28,4 +28,4 @@ pub use self::in_place::{
 };
 pub use self::mending::{mend, mended_in};
 pub use self::no_memory::NoMemory;
-pub use self::one_call::{Mended, MendedBy, correct, correct_in, mended_by};
+pub use self::one_call::{Mended, MendedBy, correct, mended_by};

@@ -49,37 +49,9 @@ pub fn mended_by<A: Allocator + Copy>(
     Ok(MendedBy { listing, text })
 }
 
-/// What a checksum says of a text, with memory from `alloc`; [`correct`] says more.
-///
-/// # Errors
-///
-/// Those of [`correct`].
-pub fn correct_in<Ck: CorrectingChecksum, A: Allocator + Copy>(
-    alloc: A,
-    text: &str,
-    erasures: &[usize],
-) -> Result<Correction<Mended<A>, Corrector<Ck, A>>, CorrectError>
-    ensures value { MatchResult result
-        (λ answer. IsCorrectionBy
-        (λ m. IsMendedBy Ck.code Ck.bound text.now erasures.now
-        m.listing (string_bytes m.text))
-        (λ c. IsCorrectorOf Ck.code text.now c)
-        Ck.code Ck.bound text.now erasures.now answer)
-        (λ e. IsCorrectRefusal Ck.code text.now e) }
-    ensures in_place { length Ck.code.generator ≤ 6 → result ≡ Err Memory
-        → (listing : List (ℕ × Element))
-        × IsListingOf Ck.code Ck.bound text.now erasures.now listing }
-{
-    match listing_in::<Ck, A>(alloc, text, erasures)? {
-        Correction::Accepted => Ok(Correction::Accepted),
-        Correction::Mended(listing) => Ok(Correction::Mended(mended_by(alloc, text, listing)?)),
-        Correction::Unexplained(corrector) => Ok(Correction::Unexplained(corrector)),
-    }
-}
-
-/// What a checksum says of a text (BIP-173, Checksum design): that it accepts it; else the only
-/// correction of the data part with so few wrong characters outside `erasures` that twice their
-/// number, with that of the erasures, is at most the bound (3 for
+/// What a checksum says of a text (BIP-173, Checksum design), with memory from `alloc`: that it
+/// accepts it; else the only correction of the data part with so few wrong characters outside
+/// `erasures` that twice their number, with that of the erasures, is at most the bound (3 for
 /// [`Bech32`](bech32_checksum::Bech32) and [`Bech32m`](bech32_checksum::Bech32m): one wrong
 /// character, or three erasures); or that there is none.
 ///
@@ -95,11 +67,11 @@ pub fn correct_in<Ck: CorrectingChecksum, A: Allocator + Copy>(
 /// As [`CheckedHrpstring::new`](bech32_decode::CheckedHrpstring::new), but for a wrong checksum.
 /// Out of memory is returned only for a text that is refused for a wrong checksum; for a checksum
 /// of at most six characters only in place of a correction.
-pub fn correct<Ck: CorrectingChecksum>(
-    alloc: Global,
+pub fn correct<Ck: CorrectingChecksum, A: Allocator + Copy>(
+    alloc: A,
     text: &str,
     erasures: &[usize],
-) -> Result<Correction<Mended, Corrector<Ck>>, CorrectError>
+) -> Result<Correction<Mended<A>, Corrector<Ck, A>>, CorrectError>
     ensures value { MatchResult result
         (λ answer. IsCorrectionBy (λ m. IsMendedBy Ck.code Ck.bound text.now erasures.now
         m.listing (string_bytes m.text)) (λ c. IsCorrectorOf Ck.code text.now c)
@@ -109,5 +81,9 @@ pub fn correct<Ck: CorrectingChecksum>(
         → (listing : List (ℕ × Element))
         × IsListingOf Ck.code Ck.bound text.now erasures.now listing }
 {
-    correct_in::<Ck, Global>(alloc, text, erasures)
+    match listing_in::<Ck, A>(alloc, text, erasures)? {
+        Correction::Accepted => Ok(Correction::Accepted),
+        Correction::Mended(listing) => Ok(Correction::Mended(mended_by(alloc, text, listing)?)),
+        Correction::Unexplained(corrector) => Ok(Correction::Unexplained(corrector)),
+    }
 }

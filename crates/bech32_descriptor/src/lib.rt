@@ -28,5 +28,5 @@ pub use self::checks::{check, checksum};
 pub use self::code::Descriptor;
 pub use self::edits::{Change, Edit, Mended, MendedTwice, TwoEdits};
 pub use self::error::{CheckError, InvalidCharacter, MendError};
-pub use self::mends::{mend, mend_in};
-pub use self::pairs::{MAX_LENGTH_FOR_TWO, mend_two, mend_two_in};
+pub use self::mends::mend;
+pub use self::pairs::{MAX_LENGTH_FOR_TWO, mend_two};

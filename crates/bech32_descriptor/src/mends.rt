@@ -11,7 +11,7 @@ use crate::error::MendError;
 use crate::residue::residue_of;
 use crate::rows::rows_of;
 use crate::walks::{changed_below, push_left_out, push_put_in, push_swapped};
-use std::alloc::{AllocError, Allocator, Global};
+use std::alloc::{AllocError, Allocator};
 
 // A text with other bytes in place of those from one place to another.
 pub(crate) fn text_with<A: Allocator>(
@@ -154,12 +154,24 @@ fn made_all<A: Allocator + Copy>(
     Ok(found)
 }
 
-/// The descriptors that one edit makes of a text, with memory from `alloc`; [`mend`] says more.
+/// All descriptors with a right checksum, other than this text, that one edit makes of it, with
+/// memory from `alloc`: one character is changed, where `most` is not 0, or two neighbours are
+/// swapped, or a character is left out, or one is put in. The edit may be in the checksum, or be
+/// the `#`. A character is a byte here: any byte of the text may be the wrong one. Each descriptor
+/// stands once, with its edit.
+///
+/// Texts with one character changed come first, then two swapped, one left out, one put in. In each
+/// kind the places rise, and at one place the codes of the characters put there. Of a run of equal
+/// characters the last is left out, and a character is put in behind a run of the same.
+///
+/// A text that is found is a guess: compare what it describes with the wallet's addresses before it
+/// is used.
 ///
 /// # Errors
 ///
-/// Those of [`mend`].
-pub fn mend_in<A: Allocator + Copy>(
+/// [`MendError::TooLong`] where the text has more than 7,500 characters; else [`MendError::Memory`]
+/// alone, and only where it has at least eight: from fewer no descriptor comes.
+pub fn mend<A: Allocator + Copy>(
     alloc: A,
     text: &[u8],
     most: usize,
@@ -176,30 +188,4 @@ pub fn mend_in<A: Allocator + Copy>(
     }
     let edits = edits_for(alloc, text, most)?;
     Ok(made_all(alloc, text, edits)?)
-}
-
-/// All descriptors with a right checksum, other than this text, that one edit makes of it: one
-/// character is changed, where `most` is not 0, or two neighbours are swapped, or a character is
-/// left out, or one is put in. The edit may be in the checksum, or be the `#`. A character is a
-/// byte here: any byte of the text may be the wrong one. Each descriptor stands once, with its
-/// edit.
-///
-/// Texts with one character changed come first, then two swapped, one left out, one put in. In each
-/// kind the places rise, and at one place the codes of the characters put there. Of a run of equal
-/// characters the last is left out, and a character is put in behind a run of the same.
-///
-/// A text that is found is a guess: compare what it describes with the wallet's addresses before it
-/// is used.
-///
-/// # Errors
-///
-/// [`MendError::TooLong`] where the text has more than 7,500 characters; else
-/// [`MendError::Memory`] alone, and only where it has at least eight: from fewer no descriptor
-/// comes.
-pub fn mend(alloc: Global, text: &[u8], most: usize) -> Result<Vec<Mended<Vec<u8>>>, MendError>
-    ensures { MatchResult result
-        (λ found. AreMends most text.now (map (λ m. (m.edit, m.text.items)) found.items))
-        (λ e. IsMendRefusal 8 7500 text.now e) }
-{
-    mend_in::<Global>(alloc, text, most)
 }

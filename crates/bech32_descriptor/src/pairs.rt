@@ -22,7 +22,7 @@ use crate::residue::residue_of;
 use crate::rows::rows_of;
 use crate::scratch::set_byte;
 use crate::walks::changed_below;
-use std::alloc::{AllocError, Allocator, Global};
+use std::alloc::{AllocError, Allocator};
 
 /// The most characters of a text of which two are changed ([`mend_two`]): 8,574,612,720 texts at
 /// most are tried for one of this length, and a checksum accepts one in 2^40. So of 100 texts that
@@ -208,13 +208,24 @@ fn mended_by_two<A: Allocator + Copy>(
     Ok(texts_by_two(alloc, text, found)?)
 }
 
-/// The descriptors that two changed characters make of a text, with memory from `alloc`;
-/// [`mend_two`] says more.
+/// All descriptors with a right checksum that come from a text by two of its characters changed,
+/// with memory from `alloc`. Either may be in the checksum, or be the `#`. A character is a byte
+/// here: any byte of the text may be a wrong one. Each descriptor stands once, with both edits.
+///
+/// They are in the order of the second edits, those further back: by their places, and at one place
+/// by the codes of the characters put there. With one second edit they are in that order of the
+/// first ones. Texts that one edit makes are told by [`mend`](crate::mend), and take much less
+/// memory and time: try that first.
+///
+/// A text that is found is a guess: compare what it describes with the wallet's addresses before it
+/// is used.
 ///
 /// # Errors
 ///
-/// Those of [`mend_two`].
-pub fn mend_two_in<A: Allocator + Copy>(
+/// [`MendError::TooLong`] where the text has more than [`MAX_LENGTH_FOR_TWO`] characters; else
+/// [`MendError::Memory`] alone, and only where it has at least nine: from fewer no descriptor
+/// comes.
+pub fn mend_two<A: Allocator + Copy>(
     alloc: A,
     text: &[u8],
 ) -> Result<Vec<MendedTwice<Vec<u8, A>>, A>, MendError>
@@ -232,29 +243,4 @@ pub fn mend_two_in<A: Allocator + Copy>(
         Ok(found) => Ok(found),
         Err(_) => Err(MendError::Memory),
     }
-}
-
-/// All descriptors with a right checksum that come from a text by two of its characters changed.
-/// Either may be in the checksum, or be the `#`. A character is a byte here: any byte of the text
-/// may be a wrong one. Each descriptor stands once, with both edits.
-///
-/// They are in the order of the second edits, those further back: by their places, and at one place
-/// by the codes of the characters put there. With one second edit they are in that order of the
-/// first ones. Texts that one edit makes are told by [`mend`](crate::mend), and take much less
-/// memory and time: try that first.
-///
-/// A text that is found is a guess: compare what it describes with the wallet's addresses before it
-/// is used.
-///
-/// # Errors
-///
-/// [`MendError::TooLong`] where the text has more than [`MAX_LENGTH_FOR_TWO`] characters; else
-/// [`MendError::Memory`] alone, and only where it has at least nine: from fewer no descriptor
-/// comes.
-pub fn mend_two(alloc: Global, text: &[u8]) -> Result<Vec<MendedTwice<Vec<u8>>>, MendError>
-    ensures { MatchResult result
-        (λ found. AreTwoMends text.now (map (λ m. (m.edits, m.text.items)) found.items))
-        (λ e. IsMendRefusal 9 max_length_for_two text.now e) }
-{
-    mend_two_in::<Global>(alloc, text)
 }

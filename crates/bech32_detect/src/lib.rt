@@ -21,7 +21,7 @@ pub use self::four::four_errors_are_detected;
 use bech32_checksum::{Checksum, Engine};
 use rows::{row_of, term_rows};
 use search::has_three;
-use std::alloc::{AllocError, Allocator, Global};
+use std::alloc::{AllocError, Allocator};
 
 // Whether four errors are detected.
 fn decided_in<Ck: Checksum, A: Allocator>(alloc: A, n: usize) -> Result<bool, AllocError>
@@ -52,25 +52,11 @@ fn decided_in<Ck: Checksum, A: Allocator>(alloc: A, n: usize) -> Result<bool, Al
 /// # Errors
 ///
 /// If memory runs out, and never at `n` = 0.
-pub fn detects_four_in<Ck: Checksum, A: Allocator>(alloc: A, n: usize) -> Result<bool, AllocError>
+pub fn detects_four<Ck: Checksum>(alloc: impl Allocator, n: usize) -> Result<bool, AllocError>
     requires { 0 < (coefficient fe32.ops Ck.code.generator 0).value }
     ensures value { IfOk result (SaysWhetherFour Ck.code n) }
     ensures texts { IfOk result (λ answer. IsTrue answer → AreTextsFar Ck.code n 4) }
     ensures memory { IfErr result (λ _. 0 < n) }
 {
-    decided_in::<Ck, A>(alloc, n)
-}
-
-/// Decides as [`detects_four_in`] does, with memory of the global allocator.
-///
-/// # Errors
-///
-/// That of [`detects_four_in`].
-pub fn detects_four<Ck: Checksum>(alloc: Global, n: usize) -> Result<bool, AllocError>
-    requires { 0 < (coefficient fe32.ops Ck.code.generator 0).value }
-    ensures value { IfOk result (SaysWhetherFour Ck.code n) }
-    ensures texts { IfOk result (λ answer. IsTrue answer → AreTextsFar Ck.code n 4) }
-    ensures memory { IfErr result (λ _. 0 < n) }
-{
-    detects_four_in::<Ck, Global>(alloc, n)
+    decided_in::<Ck, _>(alloc, n)
 }

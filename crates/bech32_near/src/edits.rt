@@ -11,4 +11,4 @@ mod walks;
 
 pub use self::edit::{Change, Edit, NearEdit};
 pub use self::error::EditsError;
-pub use self::texts::{near_edits, near_edits_in, near_edits_of_reading};
+pub use self::texts::{near_edits, near_edits_of_reading};

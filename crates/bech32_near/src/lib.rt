@@ -11,4 +11,4 @@ pub mod search;
 mod texts;
 
 pub use self::listings::nearest_listings;
-pub use self::texts::{NearTexts, nearest, nearest_in, nearest_to_reading};
+pub use self::texts::{NearTexts, nearest, nearest_to_reading};

@@ -11,7 +11,7 @@ use crate::search::Listings;
 use bech32_checksum::{Checksum, CorrectingChecksum};
 use bech32_correction::{CorrectError, Corrector, Mended, mended_by};
 use bech32_decode::Reading;
-use std::alloc::{AllocError, Allocator, Global};
+use std::alloc::{AllocError, Allocator};
 
 /// The texts near a text, and what may look further.
 #[derive(Drop)]
@@ -107,32 +107,11 @@ pub fn nearest_to_reading<Ck: CorrectingChecksum, A: Allocator + Copy>(
     })
 }
 
-/// The texts near a text, with memory from `alloc`; [`nearest`] says more.
-///
-/// # Errors
-///
-/// Those of [`nearest`].
-pub fn nearest_in<Ck: CorrectingChecksum, A: Allocator + Copy>(
-    alloc: A,
-    text: &str,
-    erasures: &[usize],
-    errors: usize,
-) -> Result<NearTexts<Vec<Mended<A>, A>, Corrector<Ck, A>>, CorrectError>
-    ensures { MatchResult result
-        (λ near. AreNearTexts Ck.code Ck.bound text.now erasures.now errors
-        (map (λ m. (m.listing, string_bytes m.text)) near.texts.items)
-        × IsSearch Ck.code text.now near.corrector)
-        (λ e. IsNearestRefusal Ck.code Ck.bound text.now erasures.now errors e) }
-{
-    let reading = Reading::<Ck>::new(text)?;
-    reading.validate_lengths()?;
-    Ok(nearest_to_reading::<Ck, A>(alloc, &reading, erasures, errors)?)
-}
-
 /// All texts that the checksum accepts, and that differ from this one in at most `errors`
-/// characters of the data part outside `erasures`: the human-readable part and the length are the
-/// same. Each is in lower case, with the listing that mends this text to it, in the order of
-/// [`nearest_listings`]; where the checksum accepts this text, it is itself the first.
+/// characters of the data part outside `erasures`, with memory from `alloc`: the human-readable
+/// part and the length are the same. Each is in lower case, with the listing that mends this text
+/// to it, in the order of [`nearest_listings`]; where the checksum accepts this text, it is itself
+/// the first.
 ///
 /// `erasures` are locations that are known to be wrong, in characters from the last, which is 0;
 /// one that is given twice counts once. Where one is not in the data part, or they are more than
@@ -154,17 +133,19 @@ pub fn nearest_in<Ck: CorrectingChecksum, A: Allocator + Copy>(
 /// erasures are in the data part and within the bound; and where twice `errors`, with the number of
 /// the erasures, is at most the bound, only where a text is near. Past the bound, memory is also
 /// taken to search with: [`nearest_listings`] says for what.
-pub fn nearest<Ck: CorrectingChecksum>(
-    alloc: Global,
+pub fn nearest<Ck: CorrectingChecksum, A: Allocator + Copy>(
+    alloc: A,
     text: &str,
     erasures: &[usize],
     errors: usize,
-) -> Result<NearTexts<Vec<Mended>, Corrector<Ck>>, CorrectError>
+) -> Result<NearTexts<Vec<Mended<A>, A>, Corrector<Ck, A>>, CorrectError>
     ensures { MatchResult result
         (λ near. AreNearTexts Ck.code Ck.bound text.now erasures.now errors
         (map (λ m. (m.listing, string_bytes m.text)) near.texts.items)
         × IsSearch Ck.code text.now near.corrector)
         (λ e. IsNearestRefusal Ck.code Ck.bound text.now erasures.now errors e) }
 {
-    nearest_in::<Ck, Global>(alloc, text, erasures, errors)
+    let reading = Reading::<Ck>::new(text)?;
+    reading.validate_lengths()?;
+    Ok(nearest_to_reading::<Ck, A>(alloc, &reading, erasures, errors)?)
 }

@@ -13,5 +13,5 @@ mod typed;
 
 pub use self::kept::AsText;
 pub use self::mendings::{Mending, Suggestion};
-pub use self::suggestions::{suggest, suggest_for_reading, suggest_in, validate_typed};
+pub use self::suggestions::{suggest, suggest_for_reading, validate_typed};
 pub use self::typed::{MAX_TYPED_LENGTH, read_typed};

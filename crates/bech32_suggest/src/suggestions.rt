@@ -16,7 +16,7 @@ use bech32_checksum::Bech32m;
 use bech32_decode::{Reading, UncheckedHrpstringError};
 use bech32_hrp::Hrp;
 use bech32_near::edits::EditsError;
-use std::alloc::{AllocError, Allocator, Global};
+use std::alloc::{AllocError, Allocator};
 
 // The addresses that are found for a typed text that was read, with at most this many errors.
 fn found_in<A: Allocator + Copy>(
@@ -109,34 +109,14 @@ pub fn suggest_for_reading<A: Allocator + Copy>(
     }
 }
 
-/// The addresses that someone who typed a text may have meant, with memory from `alloc`;
-/// [`suggest`] says more.
-///
-/// # Errors
-///
-/// Those of [`suggest`].
-pub fn suggest_in<A: Allocator + Copy>(
-    alloc: A,
-    typed: &str,
-    hrp: Hrp,
-) -> Result<Vec<Suggestion<String<A>>, A>, EditsError>
-    ensures { MatchResult result
-        (λ found. AreSuggestions typed.now (hrp_bytes hrp)
-        (map (λ s. (string_bytes s.text, (s.mending, s.place))) found.items))
-        (λ e. IsSuggestRefusal typed.now e) }
-{
-    let mut buffer = [0u8; MAX_TYPED_LENGTH];
-    let read = read_typed(typed, &mut buffer)?;
-    Ok(suggest_for_reading(alloc, typed, read, &hrp)?)
-}
-
-/// The segwit addresses of a network that someone who typed a text may have meant ("did you mean"):
-/// those that [`SegwitHrpstring::new`](bech32_decode::SegwitHrpstring::new) accepts, whose
-/// human-readable part is `hrp`, in either case, and whose form is in use: version 0 with a program
-/// of 20 bytes or 32, or version 1 with one of 32. An output of another form has no rule for
-/// spending, so no guess is of such a form. The typed text itself is no guess: if it is an address
-/// of the network, it is returned, whatever its form. Each `?` in the text is a character that
-/// cannot be read; its letters may be of either case, but not of both.
+/// The segwit addresses of a network that someone who typed a text may have meant ("did you mean"),
+/// with memory from `alloc`: those that
+/// [`SegwitHrpstring::new`](bech32_decode::SegwitHrpstring::new) accepts, whose human-readable part
+/// is `hrp`, in either case, and whose form is in use: version 0 with a program of 20 bytes or 32,
+/// or version 1 with one of 32. An output of another form has no rule for spending, so no guess is
+/// of such a form. The typed text itself is no guess: if it is an address of the network, it is
+/// returned, whatever its form. Each `?` in the text is a character that cannot be read; its
+/// letters may be of either case, but not of both.
 ///
 /// The texts that are tried are, in this order, those that [`nearest`](bech32_near::nearest) lists
 /// by Bech32, and by Bech32m, with the `?` as erasures; then, of a text without `?`, those that
@@ -161,11 +141,17 @@ pub fn suggest_in<A: Allocator + Copy>(
 ///
 /// That of [`Reading::new`] for the text with each `?` read as `0`, if it has at most 91 bytes. Out
 /// of memory is returned only where texts are tried.
-pub fn suggest(alloc: Global, typed: &str, hrp: Hrp) -> Result<Vec<Suggestion<String>>, EditsError>
+pub fn suggest<A: Allocator + Copy>(
+    alloc: A,
+    typed: &str,
+    hrp: Hrp,
+) -> Result<Vec<Suggestion<String<A>>, A>, EditsError>
     ensures { MatchResult result
         (λ found. AreSuggestions typed.now (hrp_bytes hrp)
         (map (λ s. (string_bytes s.text, (s.mending, s.place))) found.items))
         (λ e. IsSuggestRefusal typed.now e) }
 {
-    suggest_in(alloc, typed, hrp)
+    let mut buffer = [0u8; MAX_TYPED_LENGTH];
+    let read = read_typed(typed, &mut buffer)?;
+    Ok(suggest_for_reading(alloc, typed, read, &hrp)?)
 }

@@ -11,7 +11,7 @@ ghost use Rattle.c32_replies.specs.Reply.{AreTexts, IsDeriveAnswer, IsSharesAnsw
 use crate::refusal::Refusal;
 use crate::reply::Commands;
 use bech32::Fe32;
-use codex32::{Codex32Error, Share, derive_in, parse_share_index};
+use codex32::{Codex32Error, Share, derive, parse_share_index};
 use line_program::append;
 use std::alloc::Allocator;
 
@@ -102,7 +102,7 @@ impl<A: Allocator + Copy> Commands<A> {
         ensures capacity { vec_capacity out.old ≤ vec_capacity out.new }
     {
         let shares = shares_of(self.alloc, texts)?;
-        let text = derive_in(self.alloc, &shares, index)?;
+        let text = derive(self.alloc, &shares, index)?;
         append(out, b"ok ");
         append(out, text.as_bytes());
         Ok(())

@@ -8,7 +8,7 @@ ghost use Rattle.c32_replies.specs.Reply.{IsEncodeStringAnswer};
 use crate::refusal::Refusal;
 use crate::reply::Commands;
 use b32_replies::hex_word::put_bytes_of_word;
-use codex32::{EncodeError, Header, encode_in};
+use codex32::{EncodeError, Header, encode};
 use line_program::append;
 use std::alloc::Allocator;
 
@@ -37,7 +37,7 @@ impl<A: Allocator + Copy> Commands<A> {
         if size > ROOM {
             return Err(Refusal::Encode(EncodeError::Size));
         }
-        let text = encode_in(self.alloc, &header, &room[..size])?;
+        let text = encode(self.alloc, &header, &room[..size])?;
         append(out, b"ok ");
         append(out, text.as_bytes());
         Ok(())

@@ -6,7 +6,7 @@ ghost use Rattle.codex32.specs.Numbers.{number_of_codex32_error};
 ghost use Rattle.c32_replies.specs.Reply.{IsProposeAnswer, IsProposeLongAnswer};
 
 use crate::reply::Commands;
-use codex32::{Codex32Error, propose_in, propose_long_in};
+use codex32::{Codex32Error, propose, propose_long};
 use line_program::append;
 use std::alloc::Allocator;
 
@@ -37,7 +37,7 @@ impl<A: Allocator + Copy> Commands<A> {
             out.old.items out.new.items }
         ensures capacity { vec_capacity out.old ≤ vec_capacity out.new }
     {
-        match propose_in(self.alloc, text)? {
+        match propose(self.alloc, text)? {
             Some(nearest) => append_nearest(&nearest, out),
             None => append_none(out),
         }
@@ -51,7 +51,7 @@ impl<A: Allocator + Copy> Commands<A> {
             result out.old.items out.new.items }
         ensures capacity { vec_capacity out.old ≤ vec_capacity out.new }
     {
-        match propose_long_in(self.alloc, text)? {
+        match propose_long(self.alloc, text)? {
             Some(nearest) => append_nearest(&nearest, out),
             None => append_none(out),
         }

@@ -18,7 +18,7 @@ use bech32::Fe32;
 use codex32_steady::shares::agreement::interpolate_if_consistent;
 use codex32_steady::shares::distinct_indices::are_indices_distinct;
 use codex32_steady::texts::text::{put_spelled, spelled_in};
-use std::alloc::{Allocator, Global};
+use std::alloc::Allocator;
 
 // The most elements of a string: those behind three characters of 127.
 const MOST: usize = 124;
@@ -136,12 +136,12 @@ fn put_derived_text(
     Ok(3 + size)
 }
 
-/// Puts the string that [`derive_in`] makes at the front of a buffer of at least 127 bytes, and
+/// Puts the string that [`derive`] makes at the front of a buffer of at least 127 bytes, and
 /// returns its length.
 ///
 /// # Errors
 ///
-/// Those of [`derive_in`] except out of memory; the buffer is then unchanged.
+/// Those of [`derive`] except out of memory; the buffer is then unchanged.
 pub fn derive_into(
     buffer: &mut [u8],
     shares: &[Share<'_>],
@@ -172,7 +172,7 @@ pub fn derive_into(
 /// The first of: a share is not of the set of the first (another threshold, identifier or length);
 /// an index stands twice; the threshold is 0 and the index not `s`; there are fewer shares than the
 /// threshold; they contradict each other; out of memory.
-pub fn derive_in<A: Allocator>(
+pub fn derive<A: Allocator>(
     alloc: A,
     shares: &[Share<'_>],
     index: Fe32,
@@ -184,41 +184,15 @@ pub fn derive_in<A: Allocator>(
     derived_in(alloc, shares, index)
 }
 
-/// As [`derive_in`], with memory of the global allocator.
+/// The secret of shares, with memory from `alloc`: what [`derive`] gives at the index `s`.
 ///
 /// # Errors
 ///
-/// Those of [`derive_in`].
-pub fn derive(alloc: Global, shares: &[Share<'_>], index: Fe32) -> Result<String, DeriveError>
-    ensures value { IfOk result (λ s. IsDerivedString shares.now index (string_bytes s)) }
-    ensures string { IfOk result (λ s. IsStringOfSet shares.now index (string_bytes s)) }
-    ensures refused { IsDerivedOrRefused IsDeriveRefusal shares.now index result }
-{
-    derive_in(alloc, shares, index)
-}
-
-/// The secret of shares: what [`derive_in`] gives at the index `s`.
-///
-/// # Errors
-///
-/// Those of [`derive_in`], but for [`DeriveError::Unshared`].
-pub fn recover_in<A: Allocator>(alloc: A, shares: &[Share<'_>]) -> Result<String<A>, DeriveError>
+/// Those of [`derive`], but for [`DeriveError::Unshared`].
+pub fn recover<A: Allocator>(alloc: A, shares: &[Share<'_>]) -> Result<String<A>, DeriveError>
     ensures value { IfOk result (λ s. IsDerivedString shares.now secret_index (string_bytes s)) }
     ensures string { IfOk result (λ s. IsStringOfSet shares.now secret_index (string_bytes s)) }
     ensures refused { IsDerivedOrRefused IsDeriveRefusal shares.now secret_index result }
 {
-    derive_in(alloc, shares, Fe32::S)
-}
-
-/// As [`recover_in`], with memory of the global allocator.
-///
-/// # Errors
-///
-/// Those of [`recover_in`].
-pub fn recover(alloc: Global, shares: &[Share<'_>]) -> Result<String, DeriveError>
-    ensures value { IfOk result (λ s. IsDerivedString shares.now secret_index (string_bytes s)) }
-    ensures string { IfOk result (λ s. IsStringOfSet shares.now secret_index (string_bytes s)) }
-    ensures refused { IsDerivedOrRefused IsDeriveRefusal shares.now secret_index result }
-{
-    recover_in(alloc, shares)
+    derive(alloc, shares, Fe32::S)
 }

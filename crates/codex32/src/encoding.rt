@@ -17,7 +17,7 @@ use crate::header::Header;
 use crate::long::LongCodex32;
 use bech32::{ByteIterExt, Checksum, Fe32};
 use codex32_steady::texts::text::put_text;
-use std::alloc::{AllocError, Allocator, Global};
+use std::alloc::{AllocError, Allocator};
 
 // The most elements of a payload: those of 64 bytes.
 const MOST_OF_PAYLOAD: usize = 103;
@@ -106,7 +106,7 @@ fn is_of_long(count: usize) -> bool
     101 <= count && count <= 103 && 5 * count % 8 <= 4
 }
 
-/// Puts the string that [`encode_payload_in`] makes at the front of a buffer of at least 127 bytes,
+/// Puts the string that [`encode_payload`] makes at the front of a buffer of at least 127 bytes,
 /// and returns its length.
 ///
 /// # Errors
@@ -155,7 +155,7 @@ pub fn encode_payload_into(
 ///
 /// [`EncodeError::Size`] for another number of elements, before anything is allocated; otherwise
 /// out of memory.
-pub fn encode_payload_in<A: Allocator>(
+pub fn encode_payload<A: Allocator>(
     alloc: A,
     header: &Header,
     payload: &[Fe32],
@@ -179,29 +179,6 @@ pub fn encode_payload_in<A: Allocator>(
     Err(EncodeError::Size)
 }
 
-/// As [`encode_payload_in`], with memory of the global allocator.
-///
-/// # Errors
-///
-/// Those of [`encode_payload_in`].
-pub fn encode_payload(
-    alloc: Global,
-    header: &Header,
-    payload: &[Fe32],
-) -> Result<String, EncodeError>
-    ensures text { IfOk result (λ s. IsEncodedPayload header.now payload.now (string_bytes s)) }
-    ensures string { IfOk result (λ s. (characters : List ℕ)
-        × IsShareString (string_bytes s) (threshold_of_header header.now)
-        (identifier_of_header header.now) (share_index_of_header header.now) characters
-        × (elements_of characters ≡ payload.now)) }
-    ensures refused { MatchResult result
-        (λ _. is_payload_count (length payload.now) || is_long_payload_count (length payload.now)
-        ≡ true)
-        (λ e. IsEncodePayloadRefusal (length payload.now) e) }
-{
-    encode_payload_in(alloc, header, payload)
-}
-
 // Puts the elements of bytes.
 fn put_payload(elements: &mut [Fe32], bytes: &[u8])
     requires { length elements.old ≡ fes_count 0 (length bytes.now) }
@@ -214,7 +191,7 @@ fn put_payload(elements: &mut [Fe32], bytes: &[u8])
     }
 }
 
-/// Puts the string that [`encode_in`] makes at the front of a buffer of at least 127 bytes, and
+/// Puts the string that [`encode`] makes at the front of a buffer of at least 127 bytes, and
 /// returns its length.
 ///
 /// # Errors
@@ -257,7 +234,7 @@ pub fn encode_into(buffer: &mut [u8], header: &Header, bytes: &[u8]) -> Result<u
 ///
 /// [`EncodeError::Size`] for another number of bytes, before anything is allocated; otherwise out
 /// of memory.
-pub fn encode_in<A: Allocator>(
+pub fn encode<A: Allocator>(
     alloc: A,
     header: &Header,
     bytes: &[u8],
@@ -277,23 +254,5 @@ pub fn encode_in<A: Allocator>(
     let mut room = [Fe32::Q; MOST_OF_PAYLOAD];
     let elements = &mut room[..(8 * bytes.len() + 4) / 5];
     put_payload(elements, bytes);
-    encode_payload_in(alloc, header, elements)
-}
-
-/// As [`encode_in`], with memory of the global allocator.
-///
-/// # Errors
-///
-/// Those of [`encode_in`].
-pub fn encode(alloc: Global, header: &Header, bytes: &[u8]) -> Result<String, EncodeError>
-    ensures text { IfOk result (λ s. IsEncodedString header.now bytes.now (string_bytes s)) }
-    ensures string { IfOk result (λ s. (payload : List ℕ)
-        × IsShareString (string_bytes s) (threshold_of_header header.now)
-        (identifier_of_header header.now) (share_index_of_header header.now) payload
-        × (elements_of payload ≡ to_fes bytes.now)) }
-    ensures refused { MatchResult result
-        (λ _. is_byte_count (length bytes.now) || is_long_byte_count (length bytes.now) ≡ true)
-        (λ e. IsEncodeStringRefusal (length bytes.now) e) }
-{
-    encode_in(alloc, header, bytes)
+    encode_payload(alloc, header, elements)
 }

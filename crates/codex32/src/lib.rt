@@ -32,10 +32,8 @@ mod unreadable;
 
 pub use self::checksum::Codex32;
 pub use self::damaged::{validate_damaged, validate_damaged_long};
-pub use self::derivation::{derive, derive_in, derive_into, recover, recover_in};
-pub use self::encoding::{
-    encode, encode_in, encode_into, encode_payload, encode_payload_in, encode_payload_into,
-};
+pub use self::derivation::{derive, derive_into, recover};
+pub use self::encoding::{encode, encode_into, encode_payload, encode_payload_into};
 pub use self::error::{
     Codex32Error, DeriveError, EncodeError, HeaderError, PayloadError, SplitError,
 };
@@ -43,7 +41,7 @@ pub use self::header::{Header, parse_share_index, validate_header};
 pub use self::identifier::Identifier;
 pub use self::lengths::{MAX_LENGTH, MAX_LONG_LENGTH, MIN_LENGTH, MIN_LONG_LENGTH};
 pub use self::long::LongCodex32;
-pub use self::nearest::{propose, propose_in, propose_long, propose_long_in};
+pub use self::nearest::{propose, propose_long};
 pub use self::share::Share;
 pub use self::splitting::{random_count, split_into};
 pub use self::string::Codex32Str;

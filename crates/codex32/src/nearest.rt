@@ -16,7 +16,7 @@ use crate::{Codex32, Codex32Error, LongCodex32};
 use bech32::primitives::correction::{Corrector, Listing, MAX_DEGREE, listing_given};
 use bech32::{CorrectingChecksum, Fe32};
 use codex32_steady::texts::residue::{put_error_residue, residue_error_of};
-use std::alloc::{AllocError, Allocator, Global};
+use std::alloc::{AllocError, Allocator};
 use std::marker::PhantomData;
 
 // A checksum that strings end in. Its bound is 8, and so long strings have room for it.
@@ -141,10 +141,7 @@ fn proposed_in<'a, Ck: StringChecksum, A: Allocator + Copy>(
 ///
 /// That of [`validate_damaged`], before anything is allocated; otherwise out of memory, in place of
 /// any answer.
-pub fn propose_in<A: Allocator + Copy>(
-    alloc: A,
-    text: &str,
-) -> Result<Option<String<A>>, Codex32Error>
+pub fn propose<A: Allocator + Copy>(alloc: A, text: &str) -> Result<Option<String<A>>, Codex32Error>
     ensures value { IfOk result (λ answer. IsNearestAnswer string_bytes text.now answer) }
     ensures only { HasOneNearest text.now }
     ensures refused { MatchResult result
@@ -154,29 +151,14 @@ pub fn propose_in<A: Allocator + Copy>(
     proposed_in::<Codex32, A>(&alloc, text, PhantomData)
 }
 
-/// As [`propose_in`], with memory of the global allocator.
-///
-/// # Errors
-///
-/// Those of [`propose_in`].
-pub fn propose(alloc: Global, text: &str) -> Result<Option<String>, Codex32Error>
-    ensures value { IfOk result (λ answer. IsNearestAnswer string_bytes text.now answer) }
-    ensures only { HasOneNearest text.now }
-    ensures refused { MatchResult result
-        (λ _. frame_refusal (read_text text.now) ≡ None)
-        (λ e. IsProposeRefusal text.now e) }
-{
-    propose_in(alloc, text)
-}
-
 /// The nearest text to a damaged long string, of 125 to 127 characters, with memory from `alloc`:
-/// as [`propose_in`] has it of a codex32 string, by the checksum [`LongCodex32`].
+/// as [`propose`] has it of a codex32 string, by the checksum [`LongCodex32`].
 ///
 /// # Errors
 ///
 /// That of [`validate_damaged_long`](crate::validate_damaged_long), before anything is allocated;
 /// otherwise out of memory, in place of any answer.
-pub fn propose_long_in<A: Allocator + Copy>(
+pub fn propose_long<A: Allocator + Copy>(
     alloc: A,
     text: &str,
 ) -> Result<Option<String<A>>, Codex32Error>
@@ -187,19 +169,4 @@ pub fn propose_long_in<A: Allocator + Copy>(
         (λ e. IsProposeLongRefusal text.now e) }
 {
     proposed_in::<LongCodex32, A>(&alloc, text, PhantomData)
-}
-
-/// As [`propose_long_in`], with memory of the global allocator.
-///
-/// # Errors
-///
-/// Those of [`propose_long_in`].
-pub fn propose_long(alloc: Global, text: &str) -> Result<Option<String>, Codex32Error>
-    ensures value { IfOk result (λ answer. IsNearestLongAnswer string_bytes text.now answer) }
-    ensures only { HasOneNearestLong text.now }
-    ensures refused { MatchResult result
-        (λ _. long_frame_refusal (read_text text.now) ≡ None)
-        (λ e. IsProposeLongRefusal text.now e) }
-{
-    propose_long_in(alloc, text)
 }

@@ -13,8 +13,7 @@ use crate::refusal::Refusal;
 use arrayvec::ArrayString;
 use caller_memory::{Lent, Memory};
 use codex32::{
-    Codex32Error, MAX_LONG_LENGTH, propose_in, propose_long_in, validate_damaged,
-    validate_damaged_long,
+    Codex32Error, MAX_LONG_LENGTH, propose, propose_long, validate_damaged, validate_damaged_long,
 };
 use std::alloc::Allocator;
 
@@ -63,8 +62,8 @@ fn proposed_in<A: Allocator + Copy>(
         (λ e. IsNearestStringRefusal kind text.now e) }
 {
     match kind {
-        Kind::Short => propose_in(alloc, text),
-        Kind::Long => propose_long_in(alloc, text),
+        Kind::Short => propose(alloc, text),
+        Kind::Long => propose_long(alloc, text),
     }
 }
 

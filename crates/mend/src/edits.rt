@@ -24,8 +24,8 @@ fn edits_by(
         (λ e. IsEditsRefusal (code_of_name checksum) text.now e) }
 {
     match checksum {
-        ChecksumName::Bech32 => near_edits::<Bech32>(alloc, text),
-        ChecksumName::Bech32m => near_edits::<Bech32m>(alloc, text),
+        ChecksumName::Bech32 => near_edits::<Bech32, _>(alloc, text),
+        ChecksumName::Bech32m => near_edits::<Bech32m, _>(alloc, text),
     }
 }
 

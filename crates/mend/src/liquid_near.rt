@@ -39,7 +39,7 @@ fn said_near(
         (λ said. SaysLiquid text.now given.now errors said.items)
         (λ e. IsNearTextsRefusal blech32_code text.now e) }
 {
-    let near = nearest::<Blech32>(alloc, text, given, errors)?.texts;
+    let near = nearest::<Blech32, _>(alloc, text, given, errors)?.texts;
     Ok(reply_of(alloc, near.as_slice())?)
 }
 

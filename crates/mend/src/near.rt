@@ -13,7 +13,7 @@ use crate::found::{Found, reply_of};
 use crate::numbers::{BAD_WORD, NO_MEMORY};
 use b32_replies::ChecksumName;
 use bech32::{Bech32, Bech32m, CorrectError, Mended};
-use bech32_near::nearest_in;
+use bech32_near::nearest;
 use bech32_numbers::correct_error_number;
 use bumpalo::Bump;
 use line_program::append_any;
@@ -52,11 +52,11 @@ fn near_by<'a>(
 {
     match checksum {
         ChecksumName::Bech32 => {
-            let near = nearest_in::<Bech32, &'a Bump>(alloc, text, given, errors)?;
+            let near = nearest::<Bech32, &'a Bump>(alloc, text, given, errors)?;
             Ok(near.texts)
         }
         ChecksumName::Bech32m => {
-            let near = nearest_in::<Bech32m, &'a Bump>(alloc, text, given, errors)?;
+            let near = nearest::<Bech32m, &'a Bump>(alloc, text, given, errors)?;
             Ok(near.texts)
         }
     }

@@ -89,7 +89,7 @@ fn all_shown(alloc: Global, texts: &[Mended]) -> Result<String, AllocError> {
 // The texts near one.
 fn near(alloc: Global, text: &str, list: &str, errors: usize) -> Result<String, AllocError> {
     let erasures = numbers(alloc, list)?;
-    match nearest::<Blech32>(alloc, text, &erasures, errors) {
+    match nearest::<Blech32, _>(alloc, text, &erasures, errors) {
         Ok(near) => all_shown(alloc, &near.texts),
         Err(CorrectError::Refused(e)) => refused(alloc, checked_error_number(e)),
         Err(CorrectError::Memory) => no_row(alloc),

@@ -45,7 +45,7 @@ fn all_shown(alloc: Global, found: &[NearEdit<String>]) -> Result<String, AllocE
 
 // What a checksum accepts one edit away from a text.
 fn reply_of<Ck: Checksum>(alloc: Global, text: &str) -> Result<String, AllocError> {
-    match near_edits::<Ck>(alloc, text) {
+    match near_edits::<Ck, _>(alloc, text) {
         Ok(found) => all_shown(alloc, &found),
         Err(error) => format!(in alloc; "{error}"),
     }

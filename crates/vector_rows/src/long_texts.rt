@@ -35,7 +35,7 @@ fn encoded<Ck: Checksum>(alloc: Global, hrp: Hrp, data: &[u8]) -> Result<String,
 fn spelled<Ck: Checksum>(alloc: Global, hrp: Hrp, values: &[u8]) -> Result<String, AllocError> {
     told(
         alloc,
-        encode_elements::<Ck>(alloc, hrp, values).map_err(elements_error_number),
+        encode_elements::<Ck, _>(alloc, hrp, values).map_err(elements_error_number),
     )
 }
 
@@ -55,8 +55,8 @@ fn shown(alloc: Global, parts: Result<(Hrp, Vec<u8>), TextError>) -> Result<Stri
 fn reply_by<Ck: Checksum>(alloc: Global, words: &[&str]) -> Result<String, AllocError> {
     let text = word(words, 3);
     match word(words, 1) {
-        "decode-strict" => shown(alloc, decode_strict::<Ck>(alloc, text)),
-        "decode-elements" => shown(alloc, decode_elements::<Ck>(alloc, text)),
+        "decode-strict" => shown(alloc, decode_strict::<Ck, _>(alloc, text)),
+        "decode-elements" => shown(alloc, decode_elements::<Ck, _>(alloc, text)),
         command => {
             let Ok(hrp) = Hrp::parse(text) else {
                 return no_row(alloc);

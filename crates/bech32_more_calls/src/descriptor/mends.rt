@@ -7,7 +7,7 @@ ghost use Rattle.caller_memory.specs.Memory.{IsKept, LeavesMemory, memory_size};
 ghost use Rattle.bech32_more_calls.specs.descriptor.Mends.{IsMendFault, ListsMends, MendsFit, PutsEachMend, PutsFirstMends, PutsMends, number_of_mend_change, number_of_mend, second_place};
 
 use bech32_calls::listed::Listed;
-use bech32_descriptor::{Change, Edit, Mended, mend_in};
+use bech32_descriptor::{Change, Edit, Mended, mend};
 use bech32_encode::put_at_front;
 use caller_memory::{Lent, Memory};
 use std::alloc::Allocator;
@@ -129,7 +129,7 @@ fn put_found(
         kinds.old kinds.new places.old places.new texts.old texts.new listed) }
 {
     let arena = lent.arena();
-    let Ok(found) = mend_in(&arena, text, most) else {
+    let Ok(found) = mend(&arena, text, most) else {
         return None;
     };
     let mends = found.as_slice();

@@ -8,7 +8,7 @@ ghost use Rattle.bech32_more_calls.specs.descriptor.TwoMends.{IsTwoMendFault, Li
 
 use crate::descriptor::mends::{MendRefusal, nothing, put_behind};
 use bech32_calls::listed::Listed;
-use bech32_descriptor::{MAX_LENGTH_FOR_TWO, MendedTwice, mend_two_in};
+use bech32_descriptor::{MAX_LENGTH_FOR_TWO, MendedTwice, mend_two};
 use caller_memory::{Lent, Memory};
 use std::alloc::Allocator;
 
@@ -47,7 +47,7 @@ fn put_two_found(lent: &Lent, text: &[u8], places: &mut [usize], texts: &mut [u8
         (λ listed. ListsTwoMends text.now places.old places.new texts.old texts.new listed) }
 {
     let arena = lent.arena();
-    let Ok(found) = mend_two_in(&arena, text) else {
+    let Ok(found) = mend_two(&arena, text) else {
         return None;
     };
     let mends = found.as_slice();

@@ -21,7 +21,7 @@ use crate::edits::walks::Original;
 use bech32_checksum::Checksum;
 use bech32_decode::Reading;
 use bech32_hrp::Hrp;
-use std::alloc::{AllocError, Allocator, Global};
+use std::alloc::{AllocError, Allocator};
 
 // All edits that make a text that the checksum accepts.
 fn edits_of<Ck: Checksum, A: Allocator>(
@@ -122,27 +122,10 @@ pub fn near_edits_of_reading<Ck: Checksum, A: Allocator + Copy>(
     edited_all(alloc, reading.text, edits)
 }
 
-/// The texts that one edit makes of a text, with memory from `alloc`; [`near_edits`] says more.
-///
-/// # Errors
-///
-/// Those of [`near_edits`].
-pub fn near_edits_in<Ck: Checksum, A: Allocator + Copy>(
-    alloc: A,
-    text: &str,
-) -> Result<Vec<NearEdit<String<A>>, A>, EditsError>
-    ensures { MatchResult result
-        (λ found. AreNearEdits Ck.code text.now
-        (map (λ m. (m.edit, string_bytes m.text)) found.items))
-        (λ e. IsEditsRefusal Ck.code text.now e) }
-{
-    let reading = Reading::<Ck>::new(text)?;
-    Ok(near_edits_of_reading::<Ck, A>(alloc, &reading)?)
-}
-
-/// All texts other than this one that one edit makes of it, and that the checksum accepts. An edit
-/// swaps two neighbours of the data part, leaves one of its characters out, or puts one in; the
-/// human-readable part stays as it is. Each text stands once, in lower case, with its edit.
+/// All texts other than this one that one edit makes of it, and that the checksum accepts, with
+/// memory from `alloc`. An edit swaps two neighbours of the data part, leaves one of its characters
+/// out, or puts one in; the human-readable part stays as it is. Each text stands once, in lower
+/// case, with its edit.
 ///
 /// The text need only be in the grammar: one that is longer than the code by a character, or too
 /// short for the checksum by one, can be mended so.
@@ -161,14 +144,15 @@ pub fn near_edits_in<Ck: Checksum, A: Allocator + Copy>(
 ///
 /// That of [`Reading::new`], where the text is not in the grammar. Out of memory is
 /// returned only where there is such a text.
-pub fn near_edits<Ck: Checksum>(
-    alloc: Global,
+pub fn near_edits<Ck: Checksum, A: Allocator + Copy>(
+    alloc: A,
     text: &str,
-) -> Result<Vec<NearEdit<String>>, EditsError>
+) -> Result<Vec<NearEdit<String<A>>, A>, EditsError>
     ensures { MatchResult result
         (λ found. AreNearEdits Ck.code text.now
         (map (λ m. (m.edit, string_bytes m.text)) found.items))
         (λ e. IsEditsRefusal Ck.code text.now e) }
 {
-    near_edits_in::<Ck, Global>(alloc, text)
+    let reading = Reading::<Ck>::new(text)?;
+    Ok(near_edits_of_reading::<Ck, A>(alloc, &reading)?)
 }

@@ -1,7 +1,7 @@
 use crate::tests::compare::is_right_or_wants_memory;
 use bech32::{
-    Bech32, Bech32m, Checksum, ElementsError, Hrp, TextError, decode_elements_in, decode_strict_in,
-    encode_elements_in,
+    Bech32, Bech32m, Checksum, ElementsError, Hrp, TextError, decode_elements, decode_strict,
+    encode_elements,
 };
 use linked_list_allocator::LocalHeap;
 use std::alloc::Global;
@@ -57,16 +57,12 @@ fn is_text(made: Result<String<&LocalHeap>, ElementsError>) -> Option<bool> {
 // Whether a call by a checksum is right.
 fn is_right_by<Ck: Checksum>(call: &OnHeap, heap: &LocalHeap, hrp: Hrp) -> Option<bool> {
     match call {
-        OnHeap::OnlyText => has_items(decode_strict_in::<Ck, &LocalHeap>(heap, KEY), "npub", 32),
+        OnHeap::OnlyText => has_items(decode_strict::<Ck, &LocalHeap>(heap, KEY), "npub", 32),
         OnHeap::Elements => {
-            has_items(
-                decode_elements_in::<Ck, &LocalHeap>(heap, TEXT),
-                "abcdef",
-                32,
-            )
+            has_items(decode_elements::<Ck, &LocalHeap>(heap, TEXT), "abcdef", 32)
         }
         OnHeap::TextOfElements => {
-            is_text(encode_elements_in::<Ck, &LocalHeap>(heap, hrp, ELEMENTS))
+            is_text(encode_elements::<Ck, &LocalHeap>(heap, hrp, ELEMENTS))
         }
     }
 }

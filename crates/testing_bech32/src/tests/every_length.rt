@@ -2,8 +2,8 @@
 
 use crate::tests::compare::same;
 use bech32::{
-    Bech32, CorrectError, Correction, Hrp, Mended, NearEdit, NearTexts, correct_in, decode, encode,
-    near_edits_in, nearest_in,
+    Bech32, CorrectError, Correction, Hrp, Mended, NearEdit, NearTexts, correct, decode, encode,
+    near_edits, nearest,
 };
 use linked_list_allocator::LocalHeap;
 use std::alloc::{AllocError, Global};
@@ -48,7 +48,7 @@ fn mends<C>(said: &Result<Correction<Mended<&LocalHeap>, C>, CorrectError>, text
 
 /// Whether a mistyped text is corrected to this one, with the memory of a heap.
 pub fn is_corrected(heap: &LocalHeap, mistyped: &str, text: &str) -> bool {
-    mends(&correct_in::<Bech32, &LocalHeap>(heap, mistyped, &[]), text)
+    mends(&correct::<Bech32, &LocalHeap>(heap, mistyped, &[]), text)
 }
 
 // Whether this text is among mended ones.
@@ -80,7 +80,7 @@ pub fn is_near(
     erasures: &[usize],
     errors: usize,
 ) -> bool {
-    let near = nearest_in::<Bech32, &LocalHeap>(heap, mistyped, erasures, errors);
+    let near = nearest::<Bech32, &LocalHeap>(heap, mistyped, erasures, errors);
     lists(near, text)
 }
 
@@ -96,7 +96,7 @@ fn is_made(found: &[NearEdit<String<&LocalHeap>>], text: &str) -> bool {
 
 /// Whether one edit makes this text of another.
 pub fn is_edited(heap: &LocalHeap, edited: &str, text: &str) -> bool {
-    match near_edits_in::<Bech32, &LocalHeap>(heap, edited) {
+    match near_edits::<Bech32, &LocalHeap>(heap, edited) {
         Ok(near) => is_made(near.as_slice(), text),
         Err(_) => false,
     }

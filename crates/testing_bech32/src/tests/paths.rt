@@ -37,7 +37,7 @@ pub mod primitives {
     pub mod checksum {
         pub use bech32::primitives::checksum::{
             Bech32, Bech32m, Checksum, Engine, HrpFe32Iter, NamedField, NoChecksum, PackedFe32,
-            PackedNull, PrintError, PrintImpl, detects_four, detects_four_in,
+            PackedNull, PrintError, PrintImpl, detects_four,
         };
     }
 

@@ -194,7 +194,7 @@ const CORRECTED: &[(&str, &[usize], bool)] = &[
 #[test]
 fn texts_corrected_by_one_call(rt: HostRuntime) {
     for &(text, erasures, want) in CORRECTED {
-        let is_corrected = mends(&correct::<Codex32>(rt.alloc(), text, erasures), TEXT);
+        let is_corrected = mends(&correct::<Codex32, _>(rt.alloc(), text, erasures), TEXT);
         same(
             &rt,
             &(text, erasures, is_corrected),

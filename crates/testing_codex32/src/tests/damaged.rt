@@ -4,7 +4,7 @@ use crate::tests::compare::same;
 use bech32_hrp::Error as HrpError;
 use bech32_refusals::CharError::{InvalidChar, MissingSeparator, MixedCase};
 use bech32_refusals::UncheckedHrpstringError::{self, Char, Hrp};
-use codex32::{Codex32Error, propose_in, validate_damaged};
+use codex32::{Codex32Error, propose, validate_damaged};
 use linked_list_allocator::LocalHeap;
 use std::alloc::Global;
 use std::process::Abort;
@@ -12,7 +12,7 @@ use std::process::Abort;
 // Why nothing is proposed for a text where there is no memory.
 fn refusal(alloc: Global, text: &str) -> Option<Codex32Error> {
     match LocalHeap::new(alloc, 0) {
-        Ok(heap) => propose_in(&heap, text).err(),
+        Ok(heap) => propose(&heap, text).err(),
         Err(_) => None,
     }
 }

@@ -12,7 +12,7 @@ const ELEMENTS: &[u8] = &[6; 109];
 // The string of these elements.
 fn string_of<Ck: Checksum>(rt: &impl Abort, alloc: Global, elements: &[u8]) -> String {
     let hrp = Hrp::parse("ms").expect(rt, "a human-readable part");
-    encode_elements::<Ck>(alloc, hrp, elements).expect(rt, "a string")
+    encode_elements::<Ck, _>(alloc, hrp, elements).expect(rt, "a string")
 }
 
 // The same with an `x` in place of its last character, or a `q`.

@@ -2,8 +2,8 @@
 
 use bech32_gf::gf32::Fe32;
 use codex32::{
-    Codex32Error, DeriveError, EncodeError, Header, Share, derive_in, encode_in, encode_payload_in,
-    propose_in, propose_long_in, recover_in,
+    Codex32Error, DeriveError, EncodeError, Header, Share, derive, encode, encode_payload, propose,
+    propose_long, recover,
 };
 use linked_list_allocator::LocalHeap;
 use std::alloc::Global;
@@ -51,9 +51,9 @@ fn is_derived(heap: &LocalHeap, index: Fe32, want: &str) -> Option<bool> {
         Share::parse("MS12NAMECACDEFGHJKLMNPQRSTUVWXYZ023FTR2GDZMPY6PN").ok()?,
     ];
     let derived = if index == Fe32::S {
-        recover_in(heap, &shares)
+        recover(heap, &shares)
     } else {
-        derive_in(heap, &shares, index)
+        derive(heap, &shares, index)
     };
     match derived {
         Ok(text) => Some(text.as_str() == want),
@@ -75,15 +75,15 @@ impl InHeap for Made {
     fn is_right(&self, _alloc: Global, heap: &LocalHeap) -> Option<bool> {
         let header = Header::parse("0", "test", "s").ok()?;
         match self.call {
-            Call::Propose => is_nearest(propose_in(heap, self.text), self.front),
-            Call::ProposeLong => is_nearest(propose_long_in(heap, self.text), self.front),
+            Call::Propose => is_nearest(propose(heap, self.text), self.front),
+            Call::ProposeLong => is_nearest(propose_long(heap, self.text), self.front),
             Call::Derive => is_derived(heap, Fe32::D, self.front),
             Call::Recover => is_derived(heap, Fe32::S, self.front),
-            Call::Encode => is_encoded(encode_in(heap, &header, &[0u8; 16]), self.front),
+            Call::Encode => is_encoded(encode(heap, &header, &[0u8; 16]), self.front),
             Call::EncodePayload(count) => {
                 let elements = [Fe32::Q; 103];
                 let payload = elements.get(..count)?;
-                is_encoded(encode_payload_in(heap, &header, payload), self.front)
+                is_encoded(encode_payload(heap, &header, payload), self.front)
             }
         }
     }

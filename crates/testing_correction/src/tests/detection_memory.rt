@@ -1,6 +1,6 @@
 //! Out of memory where errors are detected.
 
-use bech32_detect::detects_four_in;
+use bech32_detect::detects_four;
 use linked_list_allocator::LocalHeap;
 use std::alloc::Global;
 use std::process::Abort;
@@ -12,7 +12,7 @@ struct FourErrors;
 
 impl InHeap for FourErrors {
     fn is_right(&self, _alloc: Global, heap: &LocalHeap) -> Option<bool> {
-        match detects_four_in::<Tiny<2>, _>(heap, 3) {
+        match detects_four::<Tiny<2>>(heap, 3) {
             Ok(detects) => Some(!detects),
             Err(_) => None,
         }

@@ -2,9 +2,9 @@
 
 use crate::tests::compare::same;
 use bech32_checksum::Bech32;
-use bech32_correction::{CorrectError, Correction, NoMemory, correct_in};
-use bech32_near::edits::{EditsError, near_edits_in};
-use bech32_near::nearest_in;
+use bech32_correction::{CorrectError, Correction, NoMemory, correct};
+use bech32_near::edits::{EditsError, near_edits};
+use bech32_near::nearest;
 
 // What is said of a text.
 #[derive(Clone, Copy, Debug, PartialEq)]
@@ -31,7 +31,7 @@ fn said_of_number(count: usize) -> Said {
 
 // What correcting a text says.
 fn corrected(text: &str, erasures: &[usize]) -> Said {
-    match correct_in::<Bech32, NoMemory>(NoMemory, text, erasures) {
+    match correct::<Bech32, NoMemory>(NoMemory, text, erasures) {
         Ok(Correction::Accepted) => Said::Accepted,
         Ok(Correction::Mended(_)) => Said::Found,
         Ok(Correction::Unexplained(_)) => Said::None,
@@ -41,7 +41,7 @@ fn corrected(text: &str, erasures: &[usize]) -> Said {
 
 // What the texts near one say.
 fn near(text: &str, erasures: &[usize], errors: usize) -> Said {
-    match nearest_in::<Bech32, NoMemory>(NoMemory, text, erasures, errors) {
+    match nearest::<Bech32, NoMemory>(NoMemory, text, erasures, errors) {
         Ok(near) => said_of_number(near.texts.len()),
         Err(error) => reply_of(error),
     }
@@ -49,7 +49,7 @@ fn near(text: &str, erasures: &[usize], errors: usize) -> Said {
 
 // What the edits of a text say.
 fn edited(text: &str) -> Said {
-    match near_edits_in::<Bech32, NoMemory>(NoMemory, text) {
+    match near_edits::<Bech32, NoMemory>(NoMemory, text) {
         Ok(near) => said_of_number(near.len()),
         Err(EditsError::Refused(_)) => Said::Refused,
         Err(EditsError::Memory) => Said::Memory,

@@ -2,14 +2,14 @@
 
 use crate::tests::turns::{Answer, Call, Heap, each_refused, wants_of};
 use bech32::hrp::{BC, TB};
-use bech32::primitives::checksum::{PrintError, detects_four_in};
+use bech32::primitives::checksum::{PrintError, detects_four};
 use bech32::primitives::decode::SegwitHrpstringError;
 use bech32::segwit::{self, VERSION_0, VERSION_1};
 use bech32::{
     Bech32, Bech32m, Checksum, DecodeError, EncodeError, Fe32, Hrp, PrintImpl, decode_in,
     encode_in, encode_lower_in, encode_upper_in,
 };
-use codex32::{Codex32Error, propose_in};
+use codex32::{Codex32Error, propose};
 use std::alloc::{AllocError, Allocator};
 
 // The program of the first address in BIP-173's examples, and the address; a program of version 1.
@@ -139,7 +139,7 @@ fn decodes_address(heap: Heap<'_>) -> Answer {
 }
 
 fn detects(heap: Heap<'_>) -> Answer {
-    match detects_four_in::<Bech32, _>(heap, 12) {
+    match detects_four::<Bech32>(heap, 12) {
         Ok(answer) => Answer::of(answer),
         Err(_) => Answer::NoMemory,
     }
@@ -169,7 +169,7 @@ pub fn nearest_is<A: Allocator>(
 
 fn proposes(heap: Heap<'_>) -> Answer {
     let right = "ms10testsxxxxxxxxxxxxxxxxxxxxxxxxxx4nzvca9cmczlw";
-    let nearest = propose_in(heap, "ms1qtestsqxxxxxxxxxxxxxxxxxxxxxxxxq4nzvca9cmczlq");
+    let nearest = propose(heap, "ms1qtestsqxxxxxxxxxxxxxxxxxxxxxxxxq4nzvca9cmczlq");
     nearest_is(nearest, right)
 }
 

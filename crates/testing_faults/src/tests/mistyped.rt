@@ -2,8 +2,8 @@
 
 use crate::tests::turns::{Answer, Call, Heap, each_refused};
 use bech32::{
-    Bech32, Checksum, CorrectError, Correction, EditsError, Mended, NearEdit, NearTexts,
-    correct_in, near_edits_in, nearest_in,
+    Bech32, Checksum, CorrectError, Correction, EditsError, Mended, NearEdit, NearTexts, correct,
+    near_edits, nearest,
 };
 use codex32::Codex32;
 use std::alloc::Allocator;
@@ -105,7 +105,7 @@ struct Mistyped {
 // What is said of the text that a mistyped one is corrected to.
 fn corrects(heap: Heap<'_>, given: &Mistyped) -> Answer {
     mends(
-        correct_in::<Bech32, _>(heap, given.text, given.erasures),
+        correct::<Bech32, _>(heap, given.text, given.erasures),
         given.near,
     )
 }
@@ -113,7 +113,7 @@ fn corrects(heap: Heap<'_>, given: &Mistyped) -> Answer {
 // The same by codex32.
 fn corrects_codex32(heap: Heap<'_>, given: &Mistyped) -> Answer {
     mends(
-        correct_in::<Codex32, _>(heap, given.text, given.erasures),
+        correct::<Codex32, _>(heap, given.text, given.erasures),
         given.near,
     )
 }
@@ -121,14 +121,14 @@ fn corrects_codex32(heap: Heap<'_>, given: &Mistyped) -> Answer {
 // What is said of the texts nearest to one, which should be just these.
 fn lists_nearest(heap: Heap<'_>, given: &Mistyped) -> Answer {
     lists(
-        nearest_in::<Bech32, _>(heap, given.text, given.erasures, 2),
+        nearest::<Bech32, _>(heap, given.text, given.erasures, 2),
         given.near,
     )
 }
 
 // What is said of the texts that one edit makes of one, which should be just these.
 fn makes_by_edit<Ck: Checksum, A: Allocator + Copy>(heap: A, given: &Mistyped) -> Answer {
-    makes(near_edits_in::<Ck, A>(heap, given.text), given.near)
+    makes(near_edits::<Ck, A>(heap, given.text), given.near)
 }
 
 impl Call for Mistyped {

@@ -4,8 +4,7 @@ use crate::tests::calls::nearest_is;
 use crate::tests::turns::{Answer, Call, Heap, each_refused};
 use bech32::Fe32;
 use codex32::{
-    DeriveError, EncodeError, Header, Share, derive_in, encode_in, encode_payload_in,
-    propose_long_in, recover_in,
+    DeriveError, EncodeError, Header, Share, derive, encode, encode_payload, propose_long, recover,
 };
 use std::alloc::Allocator;
 
@@ -50,8 +49,8 @@ fn text_of(call: Made) -> &'static str {
 fn of_shares(heap: Heap<'_>, call: Made) -> Option<Answer> {
     let shares = [Share::parse(A).ok()?, Share::parse(C).ok()?];
     let outcome = match call {
-        Made::Derived => derive_in(heap, &shares, Fe32::D),
-        _ => recover_in(heap, &shares),
+        Made::Derived => derive(heap, &shares, Fe32::D),
+        _ => recover(heap, &shares),
     };
     Some(derived_is(outcome, text_of(call)))
 }
@@ -72,8 +71,8 @@ fn of_header(heap: Heap<'_>, call: Made) -> Answer {
     };
     let front = "ms10testsqqqqqqqqqqqqqqqqqqqqqqqqqq";
     match call {
-        Made::OfBytes => begins(encode_in(heap, &header, &[0u8; 16]), front),
-        _ => begins(encode_payload_in(heap, &header, &[Fe32::Q; 26]), front),
+        Made::OfBytes => begins(encode(heap, &header, &[0u8; 16]), front),
+        _ => begins(encode_payload(heap, &header, &[Fe32::Q; 26]), front),
     }
 }
 
@@ -88,7 +87,7 @@ impl Call for Made {
     fn answer(&self, heap: Heap<'_>) -> Answer {
         match self {
             Made::OfBytes | Made::OfElements => of_header(heap, *self),
-            Made::NearestLong => nearest_is(propose_long_in(heap, DAMAGED), LONG),
+            Made::NearestLong => nearest_is(propose_long(heap, DAMAGED), LONG),
             _ => of_shares(heap, *self).unwrap_or(Answer::Other),
         }
     }

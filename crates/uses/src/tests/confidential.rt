@@ -31,7 +31,7 @@ fn an_address_both_ways(rt: HostRuntime) {
 
 // How Blech32 corrects a text.
 fn corrected(alloc: Global, text: &str) -> Option<Mended> {
-    match correct::<Blech32>(alloc, text, &[]) {
+    match correct::<Blech32, _>(alloc, text, &[]) {
         Ok(Correction::Mended(mended)) => Some(mended),
         _ => None,
     }

@@ -71,7 +71,7 @@ fn corrects_an_address(rt: HostRuntime) -> Result<(), Fail> {
 
 // How Bech32 corrects a text.
 fn corrected(alloc: Global, text: &str, erasures: &[usize]) -> Option<Mended> {
-    match correct::<Bech32>(alloc, text, erasures) {
+    match correct::<Bech32, _>(alloc, text, erasures) {
         Ok(Correction::Mended(mended)) => Some(mended),
         _ => None,
     }
@@ -92,7 +92,7 @@ fn corrects_by_one_call(rt: HostRuntime) {
 
 // Whether this is the only text that Bech32 accepts with at most two other characters.
 fn is_only_near(alloc: Global, mistyped: &str, text: &str) -> bool {
-    match nearest::<Bech32>(alloc, mistyped, &[], 2) {
+    match nearest::<Bech32, _>(alloc, mistyped, &[], 2) {
         Ok(near) => near.texts.len() == 1 && near.texts[0].text.as_str() == text,
         Err(_) => false,
     }

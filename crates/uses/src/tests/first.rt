@@ -16,7 +16,7 @@ fn encodes_and_decodes(rt: HostRuntime) -> Result<(), Fail> {
 }
 
 fn corrected(alloc: Global, text: &str) -> Option<Mended> {
-    match correct::<Bech32m>(alloc, text, &[]) {
+    match correct::<Bech32m, _>(alloc, text, &[]) {
         Ok(Correction::Mended(mended)) => Some(mended),
         _ => None,
     }
@@ -24,7 +24,7 @@ fn corrected(alloc: Global, text: &str) -> Option<Mended> {
 
 // Whether it is the one text with two other characters.
 fn is_near(alloc: Global, text: &str, right: &str) -> bool {
-    match nearest::<Bech32m>(alloc, text, &[], 2) {
+    match nearest::<Bech32m, _>(alloc, text, &[], 2) {
         Ok(near) => near.texts.len() == 1 && near.texts[0].text.as_str() == right,
         Err(_) => false,
     }

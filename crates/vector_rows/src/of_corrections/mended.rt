@@ -28,7 +28,7 @@ fn said_by<Ck: CorrectingChecksum>(
     erasures: &[usize],
     _sizes: PhantomData<Corrector<Ck>>,
 ) -> Result<String, AllocError> {
-    shown(alloc, correct::<Ck>(alloc, text, erasures))
+    shown(alloc, correct::<Ck, _>(alloc, text, erasures))
 }
 
 /// What a row of a checksum, a text and erasures gives.

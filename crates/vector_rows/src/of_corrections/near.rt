@@ -51,7 +51,7 @@ fn said_by<Ck: CorrectingChecksum>(
     errors: usize,
     _sizes: PhantomData<Corrector<Ck>>,
 ) -> Result<String, AllocError> {
-    shown(alloc, nearest::<Ck>(alloc, text, erasures, errors))
+    shown(alloc, nearest::<Ck, _>(alloc, text, erasures, errors))
 }
 
 /// What a row of a checksum, a text, erasures and a number of errors gives.

@@ -111,8 +111,8 @@ pub fn reply(alloc: Global, words: &[&str]) -> Result<String, AllocError> {
     let text = word(words, 2);
     match word(words, 1) {
         "decode" => decoded(alloc, text),
-        "strict" => content(alloc, decode_strict::<Bech32>(alloc, text)),
-        "elements" => content(alloc, decode_elements::<Bech32m>(alloc, text)),
+        "strict" => content(alloc, decode_strict::<Bech32, _>(alloc, text)),
+        "elements" => content(alloc, decode_elements::<Bech32m, _>(alloc, text)),
         "address" => decoded_address(alloc, text),
         "in place" => read_address(alloc, text),
         "Bech32" => checked::<Bech32>(alloc, text),

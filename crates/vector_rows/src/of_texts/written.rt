@@ -116,7 +116,7 @@ fn by_form<Ck: Checksum>(
         "either" => in_case::<Ck>(alloc, Case::Either, hrp, data),
         "lower" => in_case::<Ck>(alloc, Case::Lower, hrp, data),
         "upper" => in_case::<Ck>(alloc, Case::Upper, hrp, data),
-        "elements" => text_or_message(alloc, encode_elements::<Ck>(alloc, hrp, data)),
+        "elements" => text_or_message(alloc, encode_elements::<Ck, _>(alloc, hrp, data)),
         _ => no_row(alloc),
     }
 }

@@ -31,35 +31,35 @@ returns-in-LongBech32m g c =
     (code_of_long c.args.checksum) long_bech32m c.in-Bytes.is (ap code_of_long c.in-LongBech32m.is)
     (written-bytes (λ s. string_bytes s) long_bech32m hrp values made.result told.result made.ensures.text made.ensures.fits made.ensures.refused told.ensures)
 
-pub returns-in_err-encode_elements_in-in-LongBech32-checksum : goal.returns-in_err-encode_elements_in-in-LongBech32-checksum
-returns-in_err-encode_elements_in-in-LongBech32-checksum g c =
+pub returns-in_err-encode_elements-in-LongBech32-checksum : goal.returns-in_err-encode_elements-in-LongBech32-checksum
+returns-in_err-encode_elements-in-LongBech32-checksum g c =
     let residual = c.from_residual in
     let p = err_from_is_err_and residual.result residual.ensures.1 in
     let hrp = hrp_bytes c.args.hrp in
-    let e = c.in_err-encode_elements_in-in-LongBech32-checksum.field-0.0 in
+    let e = c.in_err-encode_elements-in-LongBech32-checksum.field-0.0 in
     rw p.1 (rw p.2 (known (λ (k : Kind) (x : Code). IsNotWritten k x hrp c.args.values.now (ElementsRefusal e)) c.args.kind Elements (code_of_long c.args.checksum) long_bech32 c.in-Elements.is
-    (ap code_of_long c.in-LongBech32-checksum.is) c.in_err-encode_elements_in-in-LongBech32-checksum.ensures.refused))
+    (ap code_of_long c.in-LongBech32-checksum.is) c.in_err-encode_elements-in-LongBech32-checksum.ensures.refused))
 
-pub returns-in_ok-encode_elements_in-in-LongBech32-checksum : goal.returns-in_ok-encode_elements_in-in-LongBech32-checksum
-returns-in_ok-encode_elements_in-in-LongBech32-checksum g c =
-    let made = c.in_ok-encode_elements_in-in-LongBech32-checksum in
+pub returns-in_ok-encode_elements-in-LongBech32-checksum : goal.returns-in_ok-encode_elements-in-LongBech32-checksum
+returns-in_ok-encode_elements-in-LongBech32-checksum g c =
+    let made = c.in_ok-encode_elements-in-LongBech32-checksum in
     let hrp = hrp_bytes c.args.hrp in
     let text = string_bytes made.field-0 in
     known (λ (k : Kind) (x : Code). IsLongWritten k x hrp c.args.values.now text) c.args.kind Elements (code_of_long c.args.checksum) long_bech32 c.in-Elements.is
     (ap code_of_long c.in-LongBech32-checksum.is) (record { is_text = made.ensures.text; fits = made.ensures.fits; may_be = made.ensures.values })
 
-pub returns-in_err-encode_elements_in-in-LongBech32m-checksum : goal.returns-in_err-encode_elements_in-in-LongBech32m-checksum
-returns-in_err-encode_elements_in-in-LongBech32m-checksum g c =
-    let residual = c.from_residual-in_err-encode_elements_in-in-LongBech32m-checksum in
+pub returns-in_err-encode_elements-in-LongBech32m-checksum : goal.returns-in_err-encode_elements-in-LongBech32m-checksum
+returns-in_err-encode_elements-in-LongBech32m-checksum g c =
+    let residual = c.from_residual-in_err-encode_elements-in-LongBech32m-checksum in
     let p = err_from_is_err_and residual.result residual.ensures.1 in
     let hrp = hrp_bytes c.args.hrp in
-    let e = c.in_err-encode_elements_in-in-LongBech32m-checksum.field-0.0 in
+    let e = c.in_err-encode_elements-in-LongBech32m-checksum.field-0.0 in
     rw p.1 (rw p.2 (known (λ (k : Kind) (x : Code). IsNotWritten k x hrp c.args.values.now (ElementsRefusal e)) c.args.kind Elements (code_of_long c.args.checksum) long_bech32m c.in-Elements.is
-    (ap code_of_long c.in-LongBech32m-checksum.is) c.in_err-encode_elements_in-in-LongBech32m-checksum.ensures.refused))
+    (ap code_of_long c.in-LongBech32m-checksum.is) c.in_err-encode_elements-in-LongBech32m-checksum.ensures.refused))
 
-pub returns-in_ok-encode_elements_in-in-LongBech32m-checksum : goal.returns-in_ok-encode_elements_in-in-LongBech32m-checksum
-returns-in_ok-encode_elements_in-in-LongBech32m-checksum g c =
-    let made = c.in_ok-encode_elements_in-in-LongBech32m-checksum in
+pub returns-in_ok-encode_elements-in-LongBech32m-checksum : goal.returns-in_ok-encode_elements-in-LongBech32m-checksum
+returns-in_ok-encode_elements-in-LongBech32m-checksum g c =
+    let made = c.in_ok-encode_elements-in-LongBech32m-checksum in
     let hrp = hrp_bytes c.args.hrp in
     let text = string_bytes made.field-0 in
     known (λ (k : Kind) (x : Code). IsLongWritten k x hrp c.args.values.now text) c.args.kind Elements (code_of_long c.args.checksum) long_bech32m c.in-Elements.is

@@ -1,16 +1,18 @@
+use Rattle.bech32.proofs.Values.{decoded-from_elements, elements-from_outcome, elements_back, values-from_outcome}
 use Rattle.bech32.proofs.elements.decode_elements.Goals as goal
 
 pub returns-clause-value : goal.returns-clause-value
-returns-clause-value g c = c.decode_elements_in.ensures.value
+returns-clause-value g c = elements-from_outcome (λ v. v.items) g.Ck.Checksum.code c.args.s.now c.content_in.result c.content_in.ensures.value
 
 pub returns-clause-values : goal.returns-clause-values
-returns-clause-values g c = c.decode_elements_in.ensures.values
+returns-clause-values g c = values-from_outcome (λ v. v.items) g.Ck.Checksum.code c.args.s.now c.content_in.result c.content_in.ensures.value
 
 pub returns-clause-accepts : goal.returns-clause-accepts
-returns-clause-accepts g c = c.decode_elements_in.ensures.accepts
+returns-clause-accepts g c = decoded-from_elements g.Ck.Checksum.code c.args.s.now c.utf8.s c.content_in.result c.content_in.ensures.refused
 
 pub returns-clause-refused : goal.returns-clause-refused
-returns-clause-refused g c = c.decode_elements_in.ensures.refused
+returns-clause-refused g c = c.content_in.ensures.refused
 
 pub returns-clause-back : goal.returns-clause-back
-returns-clause-back g c = c.decode_elements_in.ensures.back
+returns-clause-back g c =
+    elements_back (λ v. v.items) g.Ck.Checksum.code c.args.s.now c.utf8.s c.content_in.result c.content_in.ensures.value c.content_in.ensures.refused

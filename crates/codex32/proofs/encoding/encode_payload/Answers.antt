@@ -1,6 +1,6 @@
 use Rattle.std.proofs.Common.{string_bytes, sym, ◌∙◌}
 use Rattle.codex32.proofs.EncodedStrings.{by_count-long, by_count-short, encoded_long_string, encoded_string}
-use Rattle.codex32.proofs.encoding.encode_payload_in.Goals as goal
+use Rattle.codex32.proofs.encoding.encode_payload.Goals as goal
 
 pub returns-then-is_of_short-clause-text : goal.returns-then-is_of_short-clause-text
 returns-then-is_of_short-clause-text g c =

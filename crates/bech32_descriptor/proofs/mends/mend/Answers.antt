@@ -1,7 +1,7 @@
 use Rattle.std.proofs.Common.{◌<◌, length, arith}
 use Rattle.bech32_descriptor.proofs.Listed.{all_told, are_mends}
 use Rattle.bech32_descriptor.proofs.Short.{no_mends_of}
-use Rattle.bech32_descriptor.proofs.mends.mend_in.Goals as goal
+use Rattle.bech32_descriptor.proofs.mends.mend.Goals as goal
 
 pub returns-then-text-lt8 : goal.returns-then-text-lt8
 returns-then-text-lt8 g c =

@@ -4,7 +4,7 @@ use Rattle.std.proofs.lemmas.Result.{err_from_is_err_and}
 use Rattle.bech32_gf.specs.declared.gf32.Fe32.{Fe32}
 use Rattle.bech32_correction.specs.Mistyped.{IsListingOf, IsMendedBy}
 use Rattle.bech32_correction.proofs.MendedText.{mended_by, placed-from_listing}
-use Rattle.bech32_correction.proofs.one_call.correct_in.Goals as goal
+use Rattle.bech32_correction.proofs.one_call.correct.Goals as goal
 
 pub mended_by-requires : goal.mended_by-requires
 mended_by-requires g c =

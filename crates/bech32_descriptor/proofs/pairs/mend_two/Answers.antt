@@ -1,6 +1,6 @@
 use Rattle.std.proofs.Common.{◌<◌, length, arith}
 use Rattle.bech32_descriptor.proofs.Short.{no_two_mends_of}
-use Rattle.bech32_descriptor.proofs.pairs.mend_two_in.Goals as goal
+use Rattle.bech32_descriptor.proofs.pairs.mend_two.Goals as goal
 
 pub returns-then-text-lt9 : goal.returns-then-text-lt9
 returns-then-text-lt9 g c =

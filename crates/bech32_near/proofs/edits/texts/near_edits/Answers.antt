@@ -1,5 +1,5 @@
 use Rattle.std.proofs.lemmas.Result.{err_from_is_err_and}
-use Rattle.bech32_near.proofs.edits.texts.near_edits_in.Goals as goal
+use Rattle.bech32_near.proofs.edits.texts.near_edits.Goals as goal
 
 pub returns-in_err-near_edits_of_reading : goal.returns-in_err-near_edits_of_reading
 returns-in_err-near_edits_of_reading g c =

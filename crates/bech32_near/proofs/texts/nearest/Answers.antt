@@ -1,7 +1,7 @@
 use Rattle.std.proofs.Common.{rules}
 use Rattle.std.proofs.lemmas.Result.{err_from_is_err_and}
 use Rattle.bech32_correction.proofs.Outcomes.{none-from_lengths, refusal_of_parts}
-use Rattle.bech32_near.proofs.texts.nearest_in.Goals as goal
+use Rattle.bech32_near.proofs.texts.nearest.Goals as goal
 
 pub returns-in_err-validate_lengths : goal.returns-in_err-validate_lengths
 returns-in_err-validate_lengths g c =
