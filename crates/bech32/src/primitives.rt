@@ -29,7 +29,7 @@ pub mod checksum {
 pub mod correction {
     pub use bech32_correction::{
         CorrectError, CorrectableError, Correction, Corrector, ErrorIterator, Listing, Mended,
-        NoMemory, bech32_listing, bech32m_listing, correct, listing_given, listing_in,
+        NoMemory, Question, bech32_listing, bech32m_listing, correct, listing_of_text,
         listing_of_unchecked, mend, mended_in,
     };
     pub use bech32_poly::fieldvec::NO_ALLOC_MAX_LENGTH;

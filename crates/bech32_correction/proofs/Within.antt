@@ -1,13 +1,14 @@
 -- Locations that are given as erasures, and what answers then.
 use Rattle.std.specs.List.{AllByRecursion}
 use Rattle.std.specs.Prelude.{IfOk, MatchOption}
-use Rattle.std.proofs.Common.{◌≡◌, ◌<◌, ◌≤◌, ℕ, List, [], ◌∷◌, length, refl, Option, None, Some, Result, Ok, Err, subst, sym, arith}
+use Rattle.std.proofs.Common.{◌≡◌, ◌<◌, ◌≤◌, ℕ, List, [], ◌∷◌, length, refl, Option, None, Some, Result, Ok, Err, subst, sym, ap, ◌∙◌, arith}
 use Rattle.bech32_gf.specs.declared.gf32.Fe32.{Fe32}
 use Rattle.bech32_checksum.specs.Code.{Code}
 use Rattle.bech32_bch.specs.Erasures.{AreErasures, with_erasures}
 use Rattle.bech32_lookup.specs.Question.{IsAnswerTo, Question}
 use Rattle.bech32_lookup.proofs.Added.{erasures_more}
-use Rattle.bech32_correction.specs.Given.{AreWithin, IsAnswerWith, with_given}
+use Rattle.bech32_correction.specs.Given.{AreWithin, IsAnswerWith, search_end, up_to, with_given}
+use Rattle.bech32_correction.proofs.Different.{erasures_are}
 
 -- the different ones, where all are below the window
 pub bounded : {E : Type 0} (window most : ℕ) (given : List ℕ) (r : Result (Option (List ℕ)) E) → AllByRecursion (λ i. i < window) given
@@ -39,3 +40,28 @@ pub some_with : {E : Type 0} (code : Code) (bound : ℕ) (q : Question) (given :
 some_with code bound q given (Ok (Some listing)) within only = (within.0, only)
 some_with code bound q given (Ok None) within none = λ inside. none
 some_with code bound q given (Err e) within h = tt
+
+-- a question of no location above one is that of a window which ends there
+pub searched : (residue : List Fe32) (window : ℕ) (erasures : List ℕ) (highest : Option ℕ)
+    → record { residue = residue; window = search_end highest window; erasures = erasures } ≡ up_to (record { residue = residue; window = window; erasures = erasures }) highest
+searched residue window erasures None = refl
+searched residue window erasures (Some highest) = refl
+
+-- what answers a question with its own erasures answers the question
+pub own : {E : Type 0} (code : Code) (bound : ℕ) (q : Question) (given : List ℕ) (r : Result (Option (List (ℕ × Fe32))) E) → given ≡ q.erasures → AreErasures q.window q.erasures
+    → IfOk r (λ answer. IsAnswerWith code bound q given answer) → IfOk r (λ answer. IsAnswerTo code bound q answer)
+own {E} code bound q given r is erased h = said r h
+  where
+    same : with_erasures [] given ≡ q.erasures
+    same = ap (with_erasures []) is ∙ erasures_are q.erasures erased.once
+
+    inside : AllByRecursion (λ i. i < q.window) given
+    inside = subst (λ (s : List ℕ). AllByRecursion (λ i. i < q.window) s) (sym is) erased.below
+
+    moved : (answer : Option (List (ℕ × Fe32))) → IsAnswerTo code bound (with_given q given) answer → IsAnswerTo code bound q answer
+    moved answer k = subst (λ (s : List ℕ). IsAnswerTo code bound (record { residue = q.residue; window = q.window; erasures = s }) answer) same k
+
+    said : (r : Result (Option (List (ℕ × Fe32))) E) → IfOk r (λ answer. IsAnswerWith code bound q given answer) → IfOk r (λ answer. IsAnswerTo code bound q answer)
+    said (Ok None) h = moved None (h inside)
+    said (Ok (Some listing)) h = moved (Some listing) h.1
+    said (Err e) h = tt

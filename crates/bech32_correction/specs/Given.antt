@@ -19,11 +19,17 @@ with_given question given = record {
   erasures = with_erasures [] given;
 }
 
--- the same question of no location above this one
-abbrev pub up_to : Question → ℕ → Question
-up_to question highest = record {
+-- where a search of a window ends that takes no location above this one, where there is one
+abbrev pub search_end : Option ℕ → ℕ → ℕ
+search_end None window = window
+search_end (Some highest) window = min (highest + 1) window
+
+-- the same question of no location above this one, where there is one
+abbrev pub up_to : Question → Option ℕ → Question
+up_to question None = question
+up_to question (Some highest) = record {
   residue = question.residue;
-  window = min (highest + 1) question.window;
+  window = search_end (Some highest) question.window;
   erasures = question.erasures;
 }
 

@@ -4,8 +4,8 @@ ghost use Rattle.std.specs.Prelude.{◌≡◌, ◌≤◌, ℕ, List, length, Err
 ghost use Rattle.bech32_correction.specs.Mistyped.{IsCorrectRefusal, IsCorrectorOf, IsListedCorrection, IsReadAs, IsReadRefusal};
 ghost use Rattle.bech32_correction.specs.declared.error.CorrectError.TheVariants.{Memory};
 
-use crate::Corrector;
 use crate::error::CorrectError;
+use crate::{Corrector, Question};
 use bech32_bch::ShortVec;
 use bech32_checksum::{Checksum, CorrectingChecksum};
 use bech32_decode::{Reading, UncheckedHrpstring};
@@ -38,7 +38,11 @@ fn listing_by<Ck: Checksum, A: Allocator + Copy>(
         → IfOk result (λ answer. IsListedCorrection Ck.code Ck.bound text erasures.now answer) }
     ensures in_place { length Ck.code.generator ≤ 6 → IsOk result }
 {
-    match corrector.listing_with(erasures)? {
+    let question = Question {
+        erasures,
+        highest: None,
+    };
+    match corrector.listing(question)? {
         Some(listing) => Ok(Correction::Mended(listing)),
         None => Ok(Correction::Unexplained(corrector)),
     }
@@ -72,7 +76,7 @@ fn listing_of_reading<Ck: CorrectingChecksum, A: Allocator + Copy>(
 ///
 /// As [`CheckedHrpstring::new`](bech32_decode::CheckedHrpstring::new), but for a wrong checksum.
 /// Out of memory is returned only for a text that is refused for a wrong checksum.
-pub fn listing_in<Ck: CorrectingChecksum, A: Allocator + Copy>(
+pub fn listing_of_text<Ck: CorrectingChecksum, A: Allocator + Copy>(
     alloc: A,
     text: &str,
     erasures: &[usize],
@@ -87,7 +91,7 @@ pub fn listing_in<Ck: CorrectingChecksum, A: Allocator + Copy>(
 }
 
 /// What a checksum says of a text in its parts, where the given locations are erasures, as
-/// [`listing_in`] says it of a text.
+/// [`listing_of_text`] says it of a text.
 ///
 /// # Errors
 ///

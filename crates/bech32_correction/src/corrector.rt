@@ -1,6 +1,6 @@
 //! What finds the errors in a text.
 
-ghost use Rattle.std.specs.Prelude.{◌≡◌, ◌≤◌, ◌<◌, ◌+◌, ◌↔◌, [], length, min, IfOk, IsOk, IsTrue, MatchOption, OnErr, OnOk};
+ghost use Rattle.std.specs.Prelude.{◌≡◌, ◌≤◌, ◌<◌, ◌↔◌, [], length, IfOk, IsOk, IsTrue, MatchOption, OnErr, OnOk};
 ghost use Rattle.std.specs.List.{AllByRecursion};
 ghost use Rattle.bech32_bch.specs.Erasures.{AreErasures, with_erasures};
 ghost use Rattle.bech32_bch.specs.Search.{locators};
@@ -13,6 +13,7 @@ ghost use Rattle.bech32_poly.specs.FieldVec.{FitsInPlace};
 use crate::erasures::{are_below, distinct_below};
 use crate::errors::{ErrorIterator, ShortIter};
 use crate::given::{listing_below, listing_given};
+use crate::question::{Question, end_of};
 use bech32_bch::{ShortVec, locators_of};
 use bech32_checksum::Checksum;
 use bech32_gf::gf32::Fe32;
@@ -70,17 +71,6 @@ impl<Ck: Checksum, A: Allocator + Copy> fmt::Debug for Corrector<Ck, A> {
             .field("window", &self.window)
             .field("erasures", &self.erasures.as_slice())
             .finish()
-    }
-}
-
-// One past a location, where the window does not end before it.
-fn end_behind(highest: usize, window: usize) -> usize
-    ensures { result ≡ min (highest + 1) window }
-{
-    if highest < window {
-        highest + 1
-    } else {
-        window
     }
 }
 
@@ -187,60 +177,34 @@ impl<Ck: Checksum, A: Allocator + Copy> Corrector<Ck, A> {
         }))
     }
 
-    /// The errors as [`bch_errors`](Self::bch_errors) lists them, in a vector.
+    /// The errors as [`bch_errors`](Self::bch_errors) lists them, in a vector, with the erasures of
+    /// the question in place of the corrector's own. Returns `None`, too, if one of them is not
+    /// below the window, or is above the highest location that is searched.
     ///
     /// # Errors
     ///
     /// Those of [`bch_errors`](Self::bch_errors).
-    pub fn listing(&self) -> Result<Option<ShortVec<(usize, Fe32), A>>, AllocError>
+    pub fn listing(
+        &self,
+        question: Question<'_>,
+    ) -> Result<Option<ShortVec<(usize, Fe32), A>>, AllocError>
+        ensures answer { IfOk result (λ answer. IsAnswerWith Ck.code Ck.bound
+            (up_to self.now question.entry.highest) question.entry.erasures.now answer) }
+        ensures in_place { length Ck.code.generator ≤ 6 → IsOk result }
+    {
+        let end = end_of(question.highest, self.window);
+        let (alloc, residue) = (self.allocator(), &self.residue);
+        listing_given::<Ck, A>(alloc, end, residue, question.erasures, PhantomData)
+    }
+
+    // The errors with the corrector's own erasures, whose locators it keeps.
+    fn own_listing(&self) -> Result<Option<ShortVec<(usize, Fe32), A>>, AllocError>
         ensures answer { IfOk result (λ answer. IsAnswerTo Ck.code Ck.bound self.now answer) }
         ensures in_place { length Ck.code.generator ≤ 6 → IsOk result }
     {
         let alloc = self.erasures.allocator();
         let (window, residue) = (self.window, &self.residue);
         listing_below::<Ck, A>(alloc, window, residue, &self.erasures, &self.known)
-    }
-
-    /// What [`listing`](Self::listing) is with these locations as erasures in place of its own.
-    /// `None`, too, where one is not below the window.
-    ///
-    /// # Errors
-    ///
-    /// Those of [`bch_errors`](Self::bch_errors).
-    pub fn listing_with(
-        &self,
-        given: &[usize],
-    ) -> Result<Option<ShortVec<(usize, Fe32), A>>, AllocError>
-        ensures answer { IfOk result (λ answer.
-            IsAnswerWith Ck.code Ck.bound self.now given.now answer) }
-        ensures in_place { length Ck.code.generator ≤ 6 → IsOk result }
-    {
-        listing_given::<Ck, A>(
-            self.allocator(),
-            self.window,
-            &self.residue,
-            given,
-            PhantomData,
-        )
-    }
-
-    /// What [`listing_with`](Self::listing_with) is where no location above `highest` is searched:
-    /// the sooner found, the lower it is. `None`, too, where one of the given stands above it.
-    ///
-    /// # Errors
-    ///
-    /// Those of [`bch_errors`](Self::bch_errors).
-    pub fn listing_up_to(
-        &self,
-        highest: usize,
-        given: &[usize],
-    ) -> Result<Option<ShortVec<(usize, Fe32), A>>, AllocError>
-        ensures answer { IfOk result (λ answer.
-            IsAnswerWith Ck.code Ck.bound (up_to self.now highest) given.now answer) }
-        ensures in_place { length Ck.code.generator ≤ 6 → IsOk result }
-    {
-        let end = end_behind(highest, self.window);
-        listing_given::<Ck, A>(self.allocator(), end, &self.residue, given, PhantomData)
     }
 
     /// The errors that explain the error residue, and the elements at the erasures: the one pattern
@@ -258,7 +222,7 @@ impl<Ck: Checksum, A: Allocator + Copy> Corrector<Ck, A> {
     {
         // Tells the proof what is true of every corrector.
         let _ = &self.window;
-        match self.listing()? {
+        match self.own_listing()? {
             Some(items) => Ok(Some(ShortIter { items, given: 0 })),
             None => Ok(None),
         }

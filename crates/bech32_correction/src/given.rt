@@ -107,7 +107,7 @@ fn needed_locators<Ck: Checksum, A: Allocator + Copy>(
 }
 
 /// The errors below the window, and the elements at the given locations, that explain an error
-/// residue: what [`Corrector::listing_with`] answers, without a corrector. The last argument holds
+/// residue: what [`Corrector::listing`] answers, without a corrector. The last argument holds
 /// nothing: what a corrector holds stands in the signature by it, or the prover does not know its
 /// size.
 ///
@@ -115,7 +115,7 @@ fn needed_locators<Ck: Checksum, A: Allocator + Copy>(
 ///
 /// If memory runs out. For a checksum of at most six characters nothing is allocated.
 #[inline(always)]
-pub fn listing_given<Ck: Checksum, A: Allocator + Copy>(
+pub(crate) fn listing_given<Ck: Checksum, A: Allocator + Copy>(
     alloc: A,
     window: usize,
     residue: &[Fe32],

@@ -13,7 +13,7 @@ ghost use Rattle.bech32_correction.specs.Mistyped.{HasNoListing, IsListedInPlace
 ghost use Rattle.bech32_correction.specs.declared.correcting.Correction.TheVariants.{Mended, Unexplained};
 
 use crate::correcting::{Correction, Listing};
-use crate::listing_given;
+use crate::given::listing_given;
 use crate::no_memory::NoMemory;
 use bech32_checksum::{Bech32, Bech32m, CorrectingChecksum};
 use bech32_decode::Reading;

@@ -16,16 +16,17 @@ mod in_place;
 mod mending;
 mod no_memory;
 mod one_call;
+mod question;
 
 pub use self::correctable::CorrectableError;
-pub use self::correcting::{Correction, Listing, listing_in, listing_of_unchecked};
+pub use self::correcting::{Correction, Listing, listing_of_text, listing_of_unchecked};
 pub use self::corrector::Corrector;
 pub use self::error::CorrectError;
 pub use self::errors::ErrorIterator;
-pub use self::given::listing_given;
 pub use self::in_place::{
     CorrectsInPlace, bech32_listing, bech32m_listing, lookup_listing, search_listing,
 };
 pub use self::mending::{mend, mended_in};
 pub use self::no_memory::NoMemory;
 pub use self::one_call::{Mended, MendedBy, correct, mended_by};
+pub use self::question::Question;

@@ -10,7 +10,7 @@ ghost use Rattle.bech32_correction.specs.declared.error.CorrectError.TheVariants
 ghost use Rattle.bech32_decode.specs.Text.{IsText};
 
 use crate::Corrector;
-use crate::correcting::{Correction, Listing, listing_in};
+use crate::correcting::{Correction, Listing, listing_of_text};
 use crate::error::CorrectError;
 use crate::mending::mended_in;
 use bech32_checksum::CorrectingChecksum;
@@ -81,7 +81,7 @@ pub fn correct<Ck: CorrectingChecksum, A: Allocator + Copy>(
         → (listing : List (ℕ × Element))
         × IsListingOf Ck.code Ck.bound text.now erasures.now listing }
 {
-    match listing_in::<Ck, A>(alloc, text, erasures)? {
+    match listing_of_text::<Ck, A>(alloc, text, erasures)? {
         Correction::Accepted => Ok(Correction::Accepted),
         Correction::Mended(listing) => Ok(Correction::Mended(mended_by(alloc, text, listing)?)),
         Correction::Unexplained(corrector) => Ok(Correction::Unexplained(corrector)),

@@ -50,7 +50,7 @@ erased_answer rank s location window code bound residue answer erased within out
 -- below an end that stands above the location and the erasures, a corrector's listing with the location
 -- behind its erasures
 pub one_more : {E : Type 0} (code : Code) (bound : ℕ) (q : Question) (location highest : ℕ) (given : List ℕ) (r : Result (Option (List (ℕ × Fe32))) E) → given ≡ q.erasures ++ (location ∷ [])
-    → AreErasures q.window q.erasures → location ≤ highest → AllByRecursion (λ i. i ≤ highest) q.erasures → highest < q.window → IfOk r (λ answer. IsAnswerWith code bound (up_to q highest) given answer)
+    → AreErasures q.window q.erasures → location ≤ highest → AllByRecursion (λ i. i ≤ highest) q.erasures → highest < q.window → IfOk r (λ answer. IsAnswerWith code bound (up_to q (Some highest)) given answer)
     → IfOk r (λ answer. IsErasedAnswer code bound q location answer)
 one_more {E} code bound q location highest given r is erased low below within h = said r h
   where
@@ -69,7 +69,7 @@ one_more {E} code bound q location highest given r is erased low below within h 
     same : with_erasures [] given ≡ with_erasures q.erasures (location ∷ [])
     same = ap (with_erasures []) is ∙ with_erasures-append [] q.erasures (location ∷ []) ∙ ap (λ (s : List ℕ). with_erasures s (location ∷ [])) (erasures_are q.erasures erased.once)
 
-    moved : (answer : Option (List (ℕ × Fe32))) → IsAnswerTo code bound (with_given (up_to q highest) given) answer → IsErasedAnswer code bound q location answer
+    moved : (answer : Option (List (ℕ × Fe32))) → IsAnswerTo code bound (with_given (up_to q (Some highest)) given) answer → IsErasedAnswer code bound q location answer
     moved answer k = record {
       end = min (highest + 1) q.window;
       above = above;
@@ -77,7 +77,7 @@ one_more {E} code bound q location highest given r is erased low below within h 
       answers = subst (λ (s : List ℕ). IsAnswerTo code bound (record { residue = q.residue; window = min (highest + 1) q.window; erasures = s }) answer) same k;
     }
 
-    said : (r : Result (Option (List (ℕ × Fe32))) E) → IfOk r (λ answer. IsAnswerWith code bound (up_to q highest) given answer)
+    said : (r : Result (Option (List (ℕ × Fe32))) E) → IfOk r (λ answer. IsAnswerWith code bound (up_to q (Some highest)) given answer)
         → IfOk r (λ answer. IsErasedAnswer code bound q location answer)
     said (Ok None) h = moved None (h inside)
     said (Ok (Some listing)) h = moved (Some listing) h.1

@@ -13,7 +13,7 @@ use crate::lengths::Lengths;
 use crate::mending::mended_in;
 use crate::unreadable::{read_in, unreadable_in};
 use crate::{Codex32, Codex32Error, LongCodex32};
-use bech32::primitives::correction::{Corrector, Listing, MAX_DEGREE, listing_given};
+use bech32::primitives::correction::{Corrector, Listing, MAX_DEGREE, Question};
 use bech32::{CorrectingChecksum, Fe32};
 use codex32_steady::texts::residue::{put_error_residue, residue_error_of};
 use std::alloc::{AllocError, Allocator};
@@ -72,7 +72,7 @@ fn unreadable_listing_in<'a, Ck: StringChecksum, A: Allocator>(
     part: &[u8],
     data_part: &[u8],
     given: &[usize],
-    sizes: PhantomData<Corrector<Ck, &'a A>>,
+    _sizes: PhantomData<Corrector<Ck, &'a A>>,
 ) -> Result<Option<Listing<&'a A>>, AllocError>
     requires { AreFramedParts (may_have Ck.lengths) part.now data_part.now }
     ensures { IfOk result (λ found. MatchOption found
@@ -87,7 +87,11 @@ fn unreadable_listing_in<'a, Ck: StringChecksum, A: Allocator>(
     };
     let mut residue = [Fe32::Q; MAX_DEGREE];
     put_error_residue(&mut residue, &error);
-    listing_given::<Ck, &'a A>(alloc, data_part.len(), &residue, given, sizes)
+    let corrector = Corrector::<Ck, &'a A>::new(alloc, residue, data_part.len());
+    corrector.listing(Question {
+        erasures: given,
+        highest: None,
+    })
 }
 
 // The text in lower case that is mended by that listing, where there is one.

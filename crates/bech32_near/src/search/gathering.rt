@@ -6,14 +6,14 @@ ghost use Rattle.std.specs.List.{AllByRecursion};
 ghost use Rattle.bech32_bch.specs.Erasures.{AreErasures, has};
 ghost use Rattle.bech32_near.specs.search.Added.{AddsGathered, AddsHighest, AddsHighestAt};
 ghost use Rattle.bech32_near.specs.search.Steps.{IsErasedAnswer, IsTried, raised, with_highest};
-ghost use Rattle.bech32_lookup.specs.Question.{Question};
+ghost use Rattle.bech32_lookup.specs.Question.{IsAnswerTo, Question};
 ghost use Rattle.bech32_gf.specs.Fe32 as fe32;
 ghost use Rattle.bech32_gf.specs.declared.gf32.Fe32.{Fe32 as Element};
 
 use crate::search::pairs::gather_sketched;
 use bech32_bch::{ShortVec, contains};
 use bech32_checksum::Checksum;
-use bech32_correction::Corrector;
+use bech32_correction::{Corrector, Question};
 use bech32_gf::gf32::Fe32;
 use std::alloc::{AllocError, Allocator, Global};
 
@@ -174,6 +174,20 @@ fn push_raised<A: Allocator + Copy>(
     Ok(())
 }
 
+/// The corrector's listing with its own erasures.
+pub(crate) fn own_listing<Ck: Checksum, A: Allocator + Copy>(
+    corrector: &Corrector<Ck, A>,
+) -> Result<Option<ShortVec<(usize, Fe32), A>>, AllocError>
+    ensures answer { IfOk result (λ answer. IsAnswerTo Ck.code Ck.bound corrector.now answer) }
+    ensures in_place { length Ck.code.generator ≤ 6 → IsOk result }
+{
+    let erasures = corrector.erasures();
+    corrector.listing(Question {
+        erasures,
+        highest: None,
+    })
+}
+
 // Puts the one listing with so few errors that the corrector tells it behind those that were found,
 // where all of its errors are below the limit.
 fn add_answer<Ck: Checksum, A: Allocator + Copy>(
@@ -187,7 +201,7 @@ fn add_answer<Ck: Checksum, A: Allocator + Copy>(
         found.old.items found.new.items) }
 {
     let erased = corrector.erasures().len();
-    let Some(listing) = corrector.listing()? else {
+    let Some(listing) = own_listing(corrector)? else {
         return Ok(());
     };
     let (_, listed) = listing.as_slice().split_at(erased);
@@ -266,7 +280,10 @@ fn erased_listing<Ck: Checksum, A: Allocator + Copy>(
     let erasures = corrector.erasures();
     let mut wider = ShortVec::from_slice(corrector.allocator(), erasures)?;
     wider.push(location)?;
-    corrector.listing_up_to(highest_of(erasures, location), wider.as_slice())
+    corrector.listing(Question {
+        erasures: wider.as_slice(),
+        highest: Some(highest_of(erasures, location)),
+    })
 }
 
 // Whether the value is not zero, and the other errors are so few, and all below the limit.

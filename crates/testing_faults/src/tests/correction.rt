@@ -2,7 +2,7 @@
 
 use crate::tests::turns::{Answer, Call, Heap, each_refused};
 use bech32::primitives::LfsrIter;
-use bech32::primitives::correction::{Corrector, ErrorIterator, Listing};
+use bech32::primitives::correction::{Corrector, ErrorIterator, Listing, Question};
 use bech32::primitives::decode::CheckedHrpstring;
 use bech32::{Checksum, CorrectableError, Fe32};
 use codex32::Codex32;
@@ -119,7 +119,11 @@ fn lists_with<Ck: Checksum>(
     erasures: &[usize],
     want: &[(usize, Fe32)],
 ) -> Answer {
-    match corrector.listing_with(erasures) {
+    let question = Question {
+        erasures,
+        highest: None,
+    };
+    match corrector.listing(question) {
         Ok(listing) => says(listing, want),
         Err(_) => Answer::NoMemory,
     }

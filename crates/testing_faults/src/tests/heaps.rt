@@ -3,7 +3,7 @@
 use crate::tests::compare::same;
 use crate::tests::correction::corrector_of;
 use crate::tests::turns::Heap;
-use bech32::primitives::correction::{Corrector, listing_in};
+use bech32::primitives::correction::{Corrector, Question, listing_of_text};
 use bech32::{Bech32, Checksum, CorrectError, Correction, Mended};
 use bech32_correction::mended_by;
 use std::alloc::{AllocError, Global};
@@ -22,7 +22,7 @@ fn is_address(mended: Result<Mended<Heap<'_>>, AllocError>) -> Result<bool, Corr
 // Whether a text is mended to the address with memory of the heap, where the listing is of another
 // one.
 fn is_mended(heap: Heap<'_>, other: Heap<'_>, text: &str) -> Result<bool, CorrectError> {
-    match listing_in::<Bech32, Heap>(other, text, &[])? {
+    match listing_of_text::<Bech32, Heap>(other, text, &[])? {
         Correction::Mended(listing) => is_address(mended_by(heap, text, listing)),
         _ => Ok(false),
     }
@@ -50,11 +50,20 @@ fn lists_when_given<Ck: Checksum>(corrector: &Corrector<Ck, Heap<'_>>, erasures:
     }
 }
 
+// Whether one that is asked with these erasures, and up to this location, says what it lists.
+fn lists_up_to<Ck: Checksum>(
+    corrector: &Corrector<Ck, Heap<'_>>,
+    erasures: &[usize],
+    highest: Option<usize>,
+) -> bool {
+    corrector.listing(Question { erasures, highest }).is_ok()
+}
+
 // Whether a corrector with these erasures says what it lists, asked in each way.
 fn lists_with<Ck: Checksum>(corrector: &Corrector<Ck, Heap<'_>>, erasures: &[usize]) -> bool {
     lists_when_given(corrector, erasures)
-        && corrector.listing_with(erasures).is_ok()
-        && corrector.listing_up_to(usize::MAX, erasures).is_ok()
+        && lists_up_to(corrector, erasures, None)
+        && lists_up_to(corrector, erasures, Some(usize::MAX))
 }
 
 // The same of one that may be there.

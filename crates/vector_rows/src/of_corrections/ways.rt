@@ -5,7 +5,7 @@ use crate::rows::{no_row, word};
 use bech32::primitives::decode::{CheckedHrpstring, SegwitHrpstring};
 use bech32::{Bech32, Checksum, CorrectableError};
 use bech32_bch::ShortVec;
-use bech32_correction::{Corrector, ErrorIterator};
+use bech32_correction::{Corrector, ErrorIterator, Question};
 use bech32_gf::gf32::Fe32;
 use std::alloc::{AllocError, Global};
 use testing_tools::codes::{Altered, Degree13, Tiny};
@@ -97,7 +97,11 @@ fn listed_in_place<Ck: Checksum>(
     corrector: &Corrector<Ck>,
     erasures: &[usize],
 ) -> Result<String, AllocError> {
-    shown_listing(alloc, corrector.listing_with(erasures)?)
+    let question = Question {
+        erasures,
+        highest: None,
+    };
+    shown_listing(alloc, corrector.listing(question)?)
 }
 
 // What is listed where no location above this one is searched; `-` stands for the highest.
@@ -107,8 +111,11 @@ fn listed_up_to<Ck: Checksum>(
     highest: &str,
     erasures: &[usize],
 ) -> Result<String, AllocError> {
-    let highest = highest.parse::<usize>().unwrap_or(usize::MAX);
-    shown_listing(alloc, corrector.listing_up_to(highest, erasures)?)
+    let question = Question {
+        erasures,
+        highest: Some(highest.parse::<usize>().unwrap_or(usize::MAX)),
+    };
+    shown_listing(alloc, corrector.listing(question)?)
 }
 
 // What is listed where the erasures are added to those of the corrector.

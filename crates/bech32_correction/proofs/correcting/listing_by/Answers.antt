@@ -2,8 +2,8 @@ use Rattle.std.proofs.Common.{rules}
 use Rattle.bech32_correction.proofs.Outcomes.{listed, none_listed}
 use Rattle.bech32_correction.proofs.correcting.listing_by.Goals as goal
 
-pub listing_with-requires : goal.listing_with-requires
-listing_with-requires g c = search rules
+pub listing-requires : goal.listing-requires
+listing-requires g c = search rules
 
 pub returns-in-Some-clause-value : goal.returns-in-Some-clause-value
 returns-in-Some-clause-value g c = λ text is.

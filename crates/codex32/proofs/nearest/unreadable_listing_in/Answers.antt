@@ -17,8 +17,8 @@ returns-in_default g c =
       omega arith,
     )
 
-pub listing_given-requires : goal.listing_given-requires
-listing_given-requires g c =
+pub new-corrector-requires : goal.new-corrector-requires
+new-corrector-requires g c =
     let may = may_have g.Ck.StringChecksum.lengths in
     let code = g.Ck.Checksum.code in
     let is = rw c.in-Some.is at c.residue_error_of.ensures in
@@ -28,17 +28,17 @@ listing_given-requires g c =
     let fits = window_fits may c.args.part.now c.args.data_part.now c.requires code g.met.Ck.StringChecksum.fits in (
       search rules,
       (
-        search rules,
-        (
-          (g.met.Ck.CorrectingChecksum.lawful_roots, some_places code is.remainder size is.is_remainder.short is.not_target),
-          omega (arith, fits, g.met.Ck.Checksum.code_length_law),
-        ),
+        (g.met.Ck.CorrectingChecksum.lawful_roots, some_places code is.remainder size is.is_remainder.short is.not_target),
+        omega (arith, fits, g.met.Ck.Checksum.code_length_law),
       ),
     )
+
+pub listing-requires : goal.listing-requires
+listing-requires g c = search rules
 
 pub returns : goal.returns
 returns g c =
     let may = may_have g.Ck.StringChecksum.lengths in
     said_of_residue may c.args.part.now c.args.data_part.now c.requires g.Ck.Checksum.code g.met.Ck.StringChecksum.fits g.Ck.Checksum.bound c.args.given.now c.in-Some.error
-    c.put_error_residue.new.residue c.listing_given.result g.met.Ck.StringChecksum.eight (rw c.in-Some.is at c.residue_error_of.ensures) c.put_error_residue.ensures
-    (c.listing_given.ensures.answer [])
+    c.put_error_residue.new.residue c.listing.result g.met.Ck.StringChecksum.eight (rw c.in-Some.is at c.residue_error_of.ensures) c.put_error_residue.ensures
+    (rw c.new-corrector.ensures at c.listing.ensures.answer)

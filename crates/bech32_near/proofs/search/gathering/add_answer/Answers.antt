@@ -7,8 +7,8 @@ use Rattle.bech32_near.proofs.NearestAdded.{AreWithin, alone_none, alone_not, al
 use Rattle.bech32_near.proofs.NearestAnswers.{answer_of}
 use Rattle.bech32_near.proofs.search.gathering.add_answer.Goals as goal
 
-pub listing-requires : goal.listing-requires
-listing-requires g c = search rules
+pub own_listing-requires : goal.own_listing-requires
+own_listing-requires g c = search rules
 
 pub as_slice-requires : goal.as_slice-requires
 as_slice-requires g c = search rules

@@ -1,6 +1,6 @@
 use Rattle.std.proofs.Common.{ℕ, List, MatchResult, subst}
 use Rattle.bech32_correction.specs.Mistyped.{IsCorrectRefusal, IsListedCorrection}
-use Rattle.bech32_correction.proofs.correcting.listing_in.Goals as goal
+use Rattle.bech32_correction.proofs.correcting.listing_of_text.Goals as goal
 
 pub returns-clause-value : goal.returns-clause-value
 returns-clause-value g c =
