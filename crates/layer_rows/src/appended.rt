@@ -1,13 +1,12 @@
 //! Elements with their checksum behind them.
 
-use crate::elements::digits;
-use crate::rows::{no_row, word};
 use bech32_checksum::{Bech32, Bech32m, Checksum};
 use bech32_encode::{Checksummed, Fe32IterExt};
 use bech32_gf::gf32::Fe32;
 use bech32_hrp::Hrp;
 use std::alloc::{AllocError, Global};
 use testing_tools::codes::Degree13;
+use testing_tools::rows::{digits, no_row, word};
 
 // The characters of elements and of their checksum under a human-readable part.
 fn characters<Ck: Checksum>(alloc: Global, hrp: Hrp, fes: &[Fe32]) -> Result<String, AllocError> {

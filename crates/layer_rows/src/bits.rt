@@ -1,52 +1,9 @@
 //! Bytes as elements, and elements as bytes.
 
-ghost use Rattle.std.specs.Prelude.{◌<◌};
-
-use crate::elements::digits;
-use crate::rows::word;
 use bech32_bits::{ByteIterExt, FesToBytes};
 use bech32_gf::gf32::Fe32;
 use std::alloc::{AllocError, Global};
-
-// The value of a hex digit.
-fn hex_value(digit: u8) -> u8
-    ensures { result < 16 }
-{
-    match digit {
-        b'0'..=b'9' => digit - b'0',
-        b'a'..=b'f' => digit - b'a' + 10,
-        _ => 0,
-    }
-}
-
-/// The bytes of pairs of hex digits.
-pub fn bytes_of(alloc: Global, text: &str) -> Result<Vec<u8>, AllocError> {
-    let mut bytes = Vec::new(alloc);
-    for pair in text.as_bytes().chunks_exact(2) {
-        if let [high, low] = pair {
-            bytes.push(hex_value(*high) * 16 + hex_value(*low))?;
-        }
-    }
-    Ok(bytes)
-}
-
-// Puts the hex digits of a byte behind a text.
-fn push_byte(alloc: Global, text: &mut String, byte: u8) -> Result<(), AllocError> {
-    let pair = format!(in alloc; "{byte:02x}")?;
-    text.push_str(&pair)
-}
-
-/// The hex digits of bytes, and `-` for none.
-pub fn shown_bytes(alloc: Global, bytes: &[u8]) -> Result<String, AllocError> {
-    if bytes.is_empty() {
-        return String::from_str(alloc, "-");
-    }
-    let mut text = String::new(alloc);
-    for byte in bytes {
-        push_byte(alloc, &mut text, *byte)?;
-    }
-    Ok(text)
-}
+use testing_tools::rows::{bytes_of, digits, shown_bytes, word};
 
 // The characters of elements, and `-` for none.
 fn shown_elements(alloc: Global, fes: &[Fe32]) -> Result<String, AllocError> {
@@ -90,7 +47,7 @@ fn both(alloc: Global, fes: &[Fe32]) -> Result<String, AllocError> {
     format!(in alloc; "{dropped}|{filled}")
 }
 
-// The same of the elements of characters.
+// Both of the elements of these characters.
 fn both_of(alloc: Global, text: &str) -> Result<String, AllocError> {
     let fes = digits(alloc, text)?;
     both(alloc, &fes)

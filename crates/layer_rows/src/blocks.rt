@@ -1,12 +1,11 @@
 //! The block that declares a checksum.
 
-use crate::elements::digits;
-use crate::rows::{no_row, word};
 use bech32_block::{NamedField, PrintError, PrintImpl};
 use bech32_gf::field::ExtensionField;
 use bech32_gf::gf32::Fe32;
 use bech32_gf_ext::{Fe1024, Fe32768};
 use std::alloc::{AllocError, Global};
+use testing_tools::rows::{digits, no_row, word};
 
 // The number of a refusal.
 fn number(error: PrintError) -> &'static str {

@@ -1,8 +1,8 @@
 //! Descriptors with their checksums.
 
-use crate::rows::word;
 use bech32_descriptor::{Change, CheckError, Mended, check, checksum, mend};
 use std::alloc::{AllocError, Global};
+use testing_tools::rows::word;
 
 // What a descriptor is found to be.
 fn checked(alloc: Global, text: &[u8]) -> Result<String, AllocError> {

@@ -28,17 +28,6 @@ pub fn extended<const DEG: usize>(
     Ok(items)
 }
 
-/// The elements whose characters these are.
-pub fn digits(alloc: Global, text: &str) -> Result<Vec<Fe32>, AllocError> {
-    let mut items = Vec::new(alloc);
-    for c in text.chars() {
-        if let Ok(digit) = Fe32::from_char(c) {
-            items.push(digit)?;
-        }
-    }
-    Ok(items)
-}
-
 // Puts an element behind a text, and a space between the two.
 fn push<F: Display>(alloc: Global, text: &mut String, item: &F) -> Result<(), AllocError> {
     if !text.is_empty() {

@@ -3,9 +3,9 @@
 ghost use Rattle.std.specs.Prelude.{◌≢◌};
 
 use crate::elements::extended;
-use crate::rows::{no_row, word};
 use bech32_gf::field::{Field, MultiplicativeOrder};
 use std::alloc::{AllocError, Global};
+use testing_tools::rows::{no_row, word};
 
 // The product, and of the first element its inverse, its order and a power.
 fn results<F: Field>(a: F, b: F, exponent: i64) -> (F, F, usize, F)

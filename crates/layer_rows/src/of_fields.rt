@@ -36,8 +36,8 @@ mod registers;
 mod roots;
 
 use crate::of_parts;
-use crate::rows::word;
 use std::alloc::{AllocError, Global};
+use testing_tools::rows::word;
 
 /// What a row gives that begins with one of these words.
 pub fn reply(alloc: Global, words: &[&str]) -> Result<String, AllocError> {

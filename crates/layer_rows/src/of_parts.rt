@@ -13,6 +13,8 @@
 //!   it has and another one: what comes out as the other one comes in;
 //! - `version` and an element, `program` and a length: what the rules of addresses say;
 //! - `read` and a text: its parts, untested;
+//! - `walk`, a checksum and a text: what one walk says, what the reading says, what the rules say;
+//!   or `address` and a text: its version and how many characters its program has;
 //! - `address` or `older` and a text: an address, or one of the time before BIP-350;
 //! - `residues`, and twice a checksum and a text: whether both are refused for the same;
 //! - `encoder`, a checksum, a part, a version, elements and a number: all that makes the text, in
@@ -34,9 +36,10 @@ mod readers;
 mod rules;
 mod sides;
 mod turns;
+mod walks;
 
-use crate::rows::{no_row, word};
 use std::alloc::{AllocError, Global};
+use testing_tools::rows::{no_row, word};
 
 /// What a row gives that begins with one of these words.
 pub fn reply(alloc: Global, words: &[&str]) -> Result<String, AllocError> {
@@ -56,6 +59,7 @@ pub fn reply(alloc: Global, words: &[&str]) -> Result<String, AllocError> {
         "version" => rules::version_reply(alloc, words),
         "program" => rules::program_reply(alloc, words),
         "read" => readers::reply(alloc, words),
+        "walk" => walks::reply(alloc, words),
         "residues" => readers::residues_reply(alloc, words),
         "address" | "older" => addresses::reply(alloc, words),
         "encoder" | "put" | "engine" | "checked" | "shortened" | "untested" => {

@@ -1,13 +1,11 @@
 //! What the definitions say as slow code.
 
-use super::written::characters;
-use crate::bits::bytes_of;
-use crate::rows::{no_row, word};
-use bech32::Hrp;
 use bech32_bits::plain::plain_to_fes;
 use bech32_gf::gf32::Fe32;
+use bech32_hrp::Hrp;
 use std::alloc::{AllocError, Global};
 use testing_tools::plain::{PlainChecksum, accepts, encoded_text};
+use testing_tools::rows::{bytes_of, characters, no_row, word};
 
 /// Which checksums accept the text of a row.
 pub fn reply(alloc: Global, words: &[&str]) -> Result<String, AllocError> {

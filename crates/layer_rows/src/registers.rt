@@ -1,11 +1,11 @@
 //! The shortest register of a list.
 
-use crate::elements::{digits, extended, shown};
-use crate::rows::{no_row, word};
+use crate::elements::{extended, shown};
 use bech32_gf::arithmetic::Arithmetic;
 use bech32_poly::lfsr::LfsrIter;
 use std::alloc::{AllocError, Global};
 use std::fmt::Display;
+use testing_tools::rows::{digits, no_row, word};
 
 // Whether a register's next item is this one.
 fn is_next<F: Arithmetic + PartialEq>(register: &mut LfsrIter<F>, want: &F) -> bool {

@@ -1,12 +1,12 @@
 //! What an element of a field gives, by the name of the field.
 
-use crate::elements::{digits, extended, shown};
+use crate::elements::{extended, shown};
 use crate::of_fields::powers;
-use crate::rows::{no_row, word};
 use bech32_gf::field::{Bech32Field, ExtensionField};
 use bech32_gf::gf32::Fe32;
 use std::alloc::{AllocError, Global};
 use testing_tools::code::Code;
+use testing_tools::rows::{digits, no_row, word};
 use testing_tools::seven::Seven;
 
 // The elements that a field declares.

@@ -1,10 +1,10 @@
 //! The elements of characters, and the products of elements.
 
-use crate::elements::{digits, shown};
-use crate::rows::{no_row, word};
+use crate::elements::shown;
 use bech32_gf::gf32::{Fe32, FromCharError, plain};
 use std::alloc::{AllocError, Global};
 use testing_tools::known::ELEMENTS;
+use testing_tools::rows::{digits, no_row, word};
 
 // An element as it is printed, and its value.
 fn printed(alloc: Global, x: Fe32) -> Result<String, AllocError> {

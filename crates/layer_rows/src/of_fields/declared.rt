@@ -2,13 +2,13 @@
 
 ghost use Rattle.std.specs.Prelude.{◌≢◌};
 
-use crate::rows::{no_row, word};
 use bech32_checksum::{Bech32, Bech32m, Checksum, LocatorField, NoChecksum, PackedFe32};
 use bech32_descriptor::Descriptor;
 use bech32_gf::gf32::Fe32;
 use std::alloc::{AllocError, Global};
 use std::fmt::Display;
 use testing_tools::codes::Degree13;
+use testing_tools::rows::{no_row, word};
 
 /// The characters of the elements of a packed row, that of x^0 first.
 pub fn row_shown<R: PackedFe32>(alloc: Global, row: R) -> Result<String, AllocError> {

@@ -5,12 +5,12 @@ ghost use Rattle.bech32_gf.specs.Fe32.{zero};
 ghost use Rattle.bech32_gf_ext.specs.Fe1024 as pairs;
 ghost use Rattle.bech32_gf_ext.specs.Fe32768 as triples;
 
-use crate::elements::{digits, extended, shown};
-use crate::rows::{no_row, word};
+use crate::elements::{extended, shown};
 use bech32_gf::field::Field;
 use bech32_gf::gf32::Fe32;
 use bech32_gf_ext::{Fe1024, Fe32768};
 use std::alloc::{AllocError, Global};
+use testing_tools::rows::{digits, no_row, word};
 
 // Each form of an operator.
 macro_rules! each_form {

@@ -1,9 +1,9 @@
 //! Elements of integers.
 
-use crate::rows::{no_row, word};
 use bech32_gf::gf32::{Fe32, TryFromError};
 use std::alloc::{AllocError, Global};
 use std::str::FromStr;
+use testing_tools::rows::{no_row, word};
 
 // An element, or why an integer is none.
 fn shown(alloc: Global, made: Result<Fe32, TryFromError>) -> Result<String, AllocError> {

@@ -1,12 +1,12 @@
 //! What polynomials give, over `Fe32` and the integers modulo 7.
 
-use crate::elements::{digits, shown};
+use crate::elements::shown;
 use crate::of_fields::numbers::sevens;
-use crate::rows::{no_row, word};
 use bech32_gf::arithmetic::Arithmetic;
 use bech32_poly::polynomial::{Polynomial, remainder};
 use std::alloc::{AllocError, Global};
 use std::fmt::Display;
+use testing_tools::rows::{digits, no_row, word};
 
 // The coefficients of a polynomial that was made.
 fn coefficients<F: Arithmetic + Display>(

@@ -3,9 +3,9 @@
 ghost use Rattle.std.specs.Prelude.{◌≢◌, ◌≤◌};
 
 use crate::elements::shown;
-use crate::rows::{no_row, word};
 use bech32_gf::field::{Field, MultiplicativeOrder, Powers, PowersRange};
 use std::alloc::{AllocError, Global};
+use testing_tools::rows::{no_row, word};
 
 // The element added up this many times.
 fn multiple<F: Field>(alloc: Global, x: F, text: &str) -> Result<String, AllocError> {

@@ -1,14 +1,14 @@
 //! How registers begin, and go on after a clone; and vectors of elements.
 
-use crate::elements::{digits, shown};
+use crate::elements::shown;
 use crate::of_fields::numbers::sevens;
-use crate::rows::{no_row, word};
 use bech32_gf::arithmetic::Arithmetic;
 use bech32_gf::gf32::Fe32;
 use bech32_poly::fieldvec::FieldVec;
 use bech32_poly::lfsr::LfsrIter;
 use std::alloc::{AllocError, Global};
 use std::fmt::Display;
+use testing_tools::rows::{digits, no_row, word};
 
 // A register's next item; it has one always.
 fn item<F: Arithmetic>(register: &mut LfsrIter<F>) -> F {

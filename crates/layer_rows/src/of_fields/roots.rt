@@ -1,11 +1,11 @@
 //! Roots and values of polynomials over `Fe32` in `Fe1024`.
 
-use crate::elements::{digits, extended, shown};
-use crate::rows::{no_row, word};
+use crate::elements::{extended, shown};
 use bech32_gf::gf32::Fe32;
 use bech32_gf_ext::Fe1024;
 use bech32_poly::polynomial::{Polynomial, RootIter, evaluate};
 use std::alloc::{AllocError, Global};
+use testing_tools::rows::{digits, no_row, word};
 
 // The exponents of the roots among the powers of a base from one number to below another.
 fn roots(

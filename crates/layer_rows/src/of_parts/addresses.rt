@@ -1,10 +1,8 @@
 //! What is read of addresses.
 
-use crate::bits::shown_bytes;
-use crate::of_parts::readers::ascii;
-use crate::rows::word;
 use bech32_decode::{SegwitHrpstring, SegwitHrpstringError};
 use std::alloc::{AllocError, Global};
+use testing_tools::rows::{characters, shown_bytes, word};
 
 // The bytes of a program.
 fn program(alloc: Global, address: &SegwitHrpstring<'_>) -> Result<String, AllocError> {
@@ -15,7 +13,7 @@ fn program(alloc: Global, address: &SegwitHrpstring<'_>) -> Result<String, Alloc
 // The parts of an address, and whether the first is one that BIP-173 asks for.
 fn shown(alloc: Global, address: &SegwitHrpstring<'_>) -> Result<String, AllocError> {
     let program = program(alloc, address)?;
-    let data = ascii(alloc, address.data_part_ascii_no_witver_no_checksum())?;
+    let data = characters(alloc, address.data_part_ascii_no_witver_no_checksum())?;
     let (hrp, version) = (address.hrp(), address.witness_version());
     format!(in alloc;
         "{hrp}|{version}|{program}|{data}|{}",

@@ -1,9 +1,7 @@
 //! Bytes as elements and elements as bytes, in turns, and by whole lists.
 
-use crate::bits::{bytes_of, shown_bytes};
-use crate::elements::{digits, shown};
+use crate::elements::shown;
 use crate::of_parts::turns::turns;
-use crate::rows::word;
 use bech32_bits::plain::{plain_to_bytes, plain_to_fes};
 use bech32_bits::{ByteIterExt, BytesToFes, FesToBytes};
 use bech32_encode::Fe32IterExt;
@@ -11,6 +9,7 @@ use bech32_gf::gf32::Fe32;
 use std::alloc::{AllocError, Global};
 use std::iter::Copied;
 use std::slice::Iter;
+use testing_tools::rows::{bytes_of, digits, shown_bytes, word};
 
 type Elements<'a> = BytesToFes<Copied<Iter<'a, u8>>>;
 

@@ -1,11 +1,11 @@
 //! What rows of a checksum give, by its name.
 
 use crate::of_parts::{encoders, engines, readers};
-use crate::rows::{no_row, word};
 use bech32_checksum::{Bech32, Bech32m, Checksum, NoChecksum};
 use bech32_descriptor::Descriptor;
 use std::alloc::{AllocError, Global};
 use testing_tools::codes::Degree13;
+use testing_tools::rows::{no_row, word};
 
 // What a row gives by a checksum.
 fn reply_by<Ck: Checksum + Clone>(alloc: Global, words: &[&str]) -> Result<String, AllocError> {

@@ -1,8 +1,6 @@
 //! What encoders give, in turns, and the texts that go into buffers.
 
-use crate::elements::digits;
 use crate::of_parts::turns::turns;
-use crate::rows::{no_row, word};
 use bech32_checksum::{Checksum, HrpFe32Iter};
 use bech32_encode::{Checksummed, Encoder, Fe32IterExt, WitnessVersionIter, put_text};
 use bech32_gf::gf32::Fe32;
@@ -10,6 +8,7 @@ use bech32_hrp::Hrp;
 use std::alloc::{AllocError, Global};
 use std::iter::Copied;
 use std::slice::Iter;
+use testing_tools::rows::{characters, digits, no_row, word};
 
 // What stands in front of elements: the human-readable part, and a version where there is one.
 type Front<'a> = (&'a Hrp, Option<Fe32>);
@@ -92,15 +91,6 @@ pub fn reply<Ck: Checksum + Clone>(alloc: Global, words: &[&str]) -> Result<Stri
     let fes = digits(alloc, word(words, 4))?;
     let times = word(words, 5).parse::<u8>().unwrap_or(0);
     all::<Ck>(alloc, (&hrp, version), &fes, usize::from(times))
-}
-
-// The characters of bytes.
-fn characters(alloc: Global, bytes: &[u8]) -> Result<String, AllocError> {
-    let mut text = String::new(alloc);
-    for byte in bytes {
-        text.push(char::from(*byte))?;
-    }
-    Ok(text)
 }
 
 // How many bytes of a text go into a buffer of so many `-`, and what stands there then.

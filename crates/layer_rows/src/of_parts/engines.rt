@@ -1,12 +1,11 @@
 //! What engines hold.
 
-use crate::elements::digits;
 use crate::of_fields::declared::row_shown;
-use crate::rows::word;
 use bech32_checksum::{Checksum, Engine};
 use bech32_gf::gf32::Fe32;
 use bech32_hrp::Hrp;
 use std::alloc::{AllocError, Global};
+use testing_tools::rows::{digits, word};
 
 // Takes elements, one after another.
 fn input_all<Ck: Checksum>(engine: &mut Engine<Ck>, fes: &[Fe32]) {

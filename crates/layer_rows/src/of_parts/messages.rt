@@ -1,11 +1,11 @@
 //! The sentences of refusals that no row leads to.
 
-use crate::rows::{no_row, word};
 use bech32_block::PrintError;
 use bech32_decode::{CodeLengthError, SegwitCodeLengthError, SegwitHrpstringError};
 use bech32_hrp::Error;
 use std::alloc::{AllocError, Global};
 use std::fmt::{Debug, Display};
+use testing_tools::rows::{no_row, word};
 
 // A refusal as it is displayed, and as it is debugged.
 fn shown<E: Display + Debug + Drop>(alloc: Global, error: E) -> Result<String, AllocError> {

@@ -1,9 +1,9 @@
 //! Packed rows of elements.
 
 use crate::of_fields::declared::row_shown;
-use crate::rows::{no_row, word};
 use bech32_checksum::{PackedFe32, PackedNull};
 use std::alloc::{AllocError, Global};
+use testing_tools::rows::{no_row, word};
 
 // The values of the numbers of a word, each below 32.
 fn values(alloc: Global, text: &str) -> Result<Vec<u8>, AllocError> {

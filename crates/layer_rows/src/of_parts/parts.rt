@@ -1,10 +1,10 @@
 //! Human-readable parts: read, compared, kept without a test.
 
-use crate::rows::{no_row, word};
 use bech32_hrp::{BC, BCRT, Hrp, TB};
 use std::alloc::{AllocError, Global};
 use std::cmp::Ordering;
 use std::hash::{DefaultHasher, Hash, Hasher};
+use testing_tools::rows::{no_row, word};
 
 // Which of the questions on networks a part answers with yes.
 fn networks(hrp: &Hrp) -> [bool; 5] {

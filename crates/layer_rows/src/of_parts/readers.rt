@@ -2,21 +2,12 @@
 
 use crate::of_parts::addresses;
 use crate::of_parts::turns::turns;
-use crate::rows::{no_row, word};
 use bech32_checksum::{Bech32, Bech32m, Checksum};
 use bech32_decode::{CheckedHrpstring, ChecksumError, InvalidResidueError, UncheckedHrpstring};
 use bech32_gf::gf32::Fe32;
 use std::alloc::{AllocError, Global};
 use std::fmt::Display;
-
-/// The characters of a data part.
-pub fn ascii(alloc: Global, bytes: &[u8]) -> Result<String, AllocError> {
-    let mut text = String::new(alloc);
-    for byte in bytes {
-        text.push(char::from(*byte))?;
-    }
-    Ok(text)
-}
+use testing_tools::rows::{characters, no_row, word};
 
 // A version, and `-` for none.
 fn version_shown(alloc: Global, version: Option<Fe32>) -> Result<String, AllocError> {
@@ -39,10 +30,10 @@ pub fn outcome<E: Display + Drop>(
 
 // The parts of a text, its version, and its data part behind that.
 fn unchecked(alloc: Global, mut text: UncheckedHrpstring<'_>) -> Result<String, AllocError> {
-    let data = ascii(alloc, text.data_part_ascii())?;
+    let data = characters(alloc, text.data_part_ascii())?;
     let version = version_shown(alloc, text.witness_version())?;
     let removed = version_shown(alloc, text.remove_witness_version())?;
-    let rest = ascii(alloc, text.data_part_ascii())?;
+    let rest = characters(alloc, text.data_part_ascii())?;
     format!(in alloc; "{}|{data}|{version}|{removed}|{rest}", text.hrp())
 }
 
@@ -77,7 +68,7 @@ fn accepted(alloc: Global, mut text: CheckedHrpstring<'_>) -> Result<String, All
     let items = items(alloc, &text)?;
     let rules = rules(alloc, &text)?;
     let version = version_shown(alloc, text.remove_witness_version())?;
-    let rest = ascii(alloc, text.data_part_ascii_no_checksum())?;
+    let rest = characters(alloc, text.data_part_ascii_no_checksum())?;
     format!(in alloc; "{}|{version}|{rest}|{items}|{rules}|{address}", text.hrp())
 }
 
@@ -97,7 +88,7 @@ fn taken_off<Ck: Checksum>(
     let is_valid = text.has_valid_checksum::<Ck>();
     match text.validate_and_remove_checksum::<Ck>() {
         Ok(checked) => {
-            let data = ascii(alloc, checked.data_part_ascii_no_checksum())?;
+            let data = characters(alloc, checked.data_part_ascii_no_checksum())?;
             format!(in alloc; "{is_valid}|{}|{data}", checked.hrp())
         }
         Err(error) => format!(in alloc; "{is_valid}|{error}"),
@@ -126,7 +117,7 @@ pub fn untested_reply<Ck: Checksum>(alloc: Global, words: &[&str]) -> Result<Str
         return Ok(tested);
     }
     let checked = text.remove_checksum::<Ck>();
-    let data = ascii(alloc, checked.data_part_ascii_no_checksum())?;
+    let data = characters(alloc, checked.data_part_ascii_no_checksum())?;
     format!(in alloc; "{tested}|{data}")
 }
 

@@ -1,14 +1,13 @@
 //! The rules of addresses on versions and lengths.
 
-use crate::elements::digits;
 use crate::of_parts::readers::outcome;
-use crate::rows::{no_row, word};
 use bech32_decode::segwit::{
     MAX_STRING_LENGTH, VERSION_0, VERSION_1, is_valid_witness_program_length,
     is_valid_witness_version, validate_witness_program_length, validate_witness_version,
 };
 use bech32_gf::gf32::Fe32;
 use std::alloc::{AllocError, Global};
+use testing_tools::rows::{digits, no_row, word};
 
 // Whether an element is a version, and why not.
 fn version(alloc: Global, version: Fe32) -> Result<String, AllocError> {

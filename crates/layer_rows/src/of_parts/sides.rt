@@ -1,9 +1,9 @@
 //! The bytes and characters of a human-readable part, from either end.
 
 use crate::of_parts::turns::hint_shown;
-use crate::rows::{no_row, word};
 use bech32_hrp::{ByteIter, CharIter, Hrp, LowercaseByteIter, LowercaseCharIter};
 use std::alloc::{AllocError, Global};
+use testing_tools::rows::{no_row, word};
 
 // The four iterators over a part.
 #[derive(Drop)]

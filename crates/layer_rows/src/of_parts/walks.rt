@@ -1,10 +1,9 @@
 //! Texts that one walk reads, and texts of which it says nothing.
 
-use crate::rows::{no_row, word};
-use bech32::primitives::decode::{CheckedHrpstring, UncheckedHrpstringError};
-use bech32::{Bech32, Bech32m, Checksum};
-use bech32_decode::Reading;
+use bech32_checksum::{Bech32, Bech32m, Checksum};
+use bech32_decode::{CheckedHrpstring, Reading, UncheckedHrpstringError};
 use std::alloc::{AllocError, Global};
+use testing_tools::rows::{no_row, word};
 
 // Whether something accepts a text.
 fn word_of(is_accepted: bool) -> &'static str {
