@@ -1,7 +1,7 @@
 use Rattle.std.proofs.Common.{◌≡◌, ◌∙◌, ap}
 use Rattle.bech32_gf.specs.Field.{Ops, IsField}
 use Rattle.bech32_gf.specs.laws.Ring.{ring}
-use Rattle.testing_gf.proofs.tests.fields.difference_of_squares.Goals as goal
+use Rattle.testing_parts.proofs.tests.fields.difference_of_squares.Goals as goal
 
 squares : {F : Type 0} (o : Ops F) (l : IsField o) (x y : F)
     → o.add (o.mul x x) (o.neg (o.mul y y)) ≡ o.mul (o.add x y) (o.add x (o.neg y))

@@ -1,6 +1,6 @@
 use Rattle.std.proofs.Common.{sym, ◌∙◌}
 use Rattle.bech32_gf.specs.laws.FieldLaws.{IsOrder-not_zero}
-use Rattle.testing_gf.proofs.tests.fields.order_of_generator.Goals as goal
+use Rattle.testing_parts.proofs.tests.fields.order_of_generator.Goals as goal
 
 pub multiplicative_order-requires : goal.multiplicative_order-requires
 multiplicative_order-requires g c e =

@@ -2,7 +2,7 @@ use Rattle.std.proofs.Common.{◌≡◌, ◌+◌, ◌-◌, ◌∙◌, ap, sym, f
 use Rattle.std.specs.Iterator.{Drains, YieldsFirst}
 use Rattle.bech32_gf.specs.Field.{Ops}
 use Rattle.bech32_gf.specs.Powers.{powers_of, powers_left}
-use Rattle.testing_gf.proofs.tests.fields.sum_of_powers.Goals as goal
+use Rattle.testing_parts.proofs.tests.fields.sum_of_powers.Goals as goal
 
 -- a whole walk gives what was left
 all_given : {S A : Type 0} (rest : S → List A) (xs : List A) (s : S) → Drains (YieldsFirst rest) s xs → xs ≡ rest s

@@ -1,5 +1,5 @@
 use Rattle.std.proofs.Common.{◌∙◌, ap}
-use Rattle.testing_gf.proofs.tests.fields.there_and_back.Goals as goal
+use Rattle.testing_parts.proofs.tests.fields.there_and_back.Goals as goal
 
 pub returns : goal.returns
 returns g c =
