@@ -1,6 +1,6 @@
 """Makes rows of descriptors (BIP-380) with what they give, by the definitions alone.
 
-    descriptors.py make COUNT SEED          prints COUNT rows of vector_rows, each with a tab and its reply
+    descriptors.py make COUNT SEED          prints COUNT rows of layer_rows, each with a tab and its reply
     descriptors.py check ROWS REPLIES       prints where the model's reply is another
 
 A checksum is the remainder of a long division of lists of coefficients over the field of 32 elements, which are

@@ -1,4 +1,4 @@
-"""Makes the rows of vector_rows on the layers below the readers and on these: fields, polynomials, registers, packed rows,
+"""Makes the rows of layer_rows on the layers below the readers and on these: fields, polynomials, registers, packed rows,
 human-readable parts, groups of bits, encoders, engines, readers of texts and of addresses, and what refusals say.
 
     layers.py rows          prints the rows

@@ -202,14 +202,18 @@ for (const [program, commands] of [['b32', OF_TEXTS], ['c32', OF_STRINGS]]) {
   });
 }
 
+// The words of each row of vector_rows that begins with a name, with its reply.
+const vectorRows = (name) => {
+  const [rows, replies] = ['stdin', 'stdout'].map((it) => linesOf(`crates/vector_rows/${it}`).map((line) => line.toString('latin1')));
+  return rows.map((row, i) => [row.split('|'), replies[i]]).filter(([words]) => words[0] === name).map(([words, reply]) => [words.slice(1), reply]);
+};
+
 test('replies to the stored rows of long texts, whose lines would be too long', (t) => {
-  const rows = linesOf('crates/vector_rows/stdin').map((line) => line.toString('latin1')).filter((line) => line.startsWith('long|'));
-  // They are the last rows.
-  const replies = linesOf('crates/vector_rows/stdout').slice(-rows.length).map((line) => line.toString('latin1'));
+  const rows = vectorRows('long');
   const count = { called: 0 };
-  rows.forEach((row, i) => {
-    const line = row.slice('long|'.length).replaceAll('|', ' ');
-    assert.equal(replyTo(Buffer.from(line), line.length, OF_TEXTS, count), replies[i], line.slice(0, 200));
+  rows.forEach(([words, reply]) => {
+    const line = words.join(' ');
+    assert.equal(replyTo(Buffer.from(line), line.length, OF_TEXTS, count), reply, line.slice(0, 200));
   });
   t.diagnostic(`${rows.length} rows`);
   assert.equal(rows.length, 20);
@@ -222,16 +226,11 @@ const rowOf = ({ text, edit: { kind, place, characters } }, given) =>
   `${inLowerCase(given, text)},${MARKS[kind]}${given.length - place - (kind === 'putIn' ? 0 : characters.length)}:${characters.toLowerCase()}`;
 
 test('the texts that one edit makes are those of the stored rows', (t) => {
-  const text = (line) => line.toString('latin1');
-  const rows = linesOf('crates/vector_rows/stdin').map(text).filter((line) => line.startsWith('edits|')).map((line) => line.split('|'));
-  // These rows have a line of reply each. Behind them stand those of a block, and what it prints.
-  const printed = linesOf('crates/vector_rows/stdout').map(text);
-  const end = printed.findLastIndex((line) => line.startsWith('// Code block'));
-  const replies = printed.slice(end - rows.length, end);
-  rows.forEach(([, name, given], i) => {
+  const rows = vectorRows('edits');
+  rows.forEach(([[name, given], reply]) => {
     const checksum = name.toLowerCase(), found = nearEdits(checksum, given);
     found.forEach((it) => check(checksum, it.text));
-    assert.equal(found.map((it) => rowOf(it, given)).join(' ') || 'none', replies[i], given);
+    assert.equal(found.map((it) => rowOf(it, given)).join(' ') || 'none', reply, given);
   });
   t.diagnostic(`${rows.length} rows`);
   assert.equal(rows.length, 300);

@@ -37,6 +37,12 @@ def rows(program):
             continue
 
 
+def vector_rows(name):
+    """The words of each row of vector_rows that begins with a name, with its reply."""
+    lines, replies = (stored("vector_rows", kind).read_text("utf-8").split("\n") for kind in ("lines", "replies"))
+    return [(line.split("|")[1:], reply) for line, reply in zip(lines, replies) if line.startswith(f"{name}|")]
+
+
 # How a row names the kinds of edits.
 MARKS = {EditKind.SWAPPED: "x", EditKind.LEFT_OUT: "-", EditKind.PUT_IN: "+"}
 
@@ -218,11 +224,8 @@ class Lines(unittest.TestCase):
         self.assertEqual(program.wait(), 0)
 
     def test_long_texts(self):
-        # These are the last rows: lines of b32 that would be too long.
-        lines = stored("vector_rows", "lines").read_text("utf-8").splitlines()
-        wanted = [line.split("|")[1:] for line in lines if line.startswith("long|")]
-        replies = stored("vector_rows", "replies").read_text("utf-8").splitlines()[-len(wanted) :]
-        for (name, *words), reply in zip(wanted, replies):
+        wanted = vector_rows("long")
+        for (name, *words), reply in wanted:
             try:
                 answer = _lines.PROGRAMS["b32"][name].answer(*words)
             except Refused as refused:
@@ -231,12 +234,8 @@ class Lines(unittest.TestCase):
         self.assertEqual(len(wanted), 20)
 
     def test_edits(self):
-        # These rows have a line of reply each. Behind them stand those of a block, and what it prints.
-        lines = stored("vector_rows", "lines").read_text("utf-8").split("\n")
-        wanted = [line.split("|")[1:] for line in lines if line.startswith("edits|")]
-        printed = stored("vector_rows", "replies").read_text("utf-8").rpartition("// Code block")[0]
-        replies = printed.splitlines()[-len(wanted) :]
-        for (name, text), reply in zip(wanted, replies):
+        wanted = vector_rows("edits")
+        for (name, text), reply in wanted:
             checksum = Checksum[name.upper()]
             found = near_edits(checksum, text)
             for near in found:

@@ -1,9 +1,16 @@
 mod compare;
+mod crafted;
+mod detection_memory;
 mod elements;
 mod every_length;
+mod listed;
+mod looked_up;
+mod memory;
 mod messages;
+mod nearest;
 pub mod paths;
 mod room;
 mod root;
 mod segwit;
+mod without_memory;
 mod writers;

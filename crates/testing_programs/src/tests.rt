@@ -1,4 +1,3 @@
 mod compare;
 mod replies;
 mod runs;
-mod strings;

@@ -10,5 +10,6 @@ pub mod iterators;
 pub mod known;
 pub mod memory;
 pub mod plain;
+pub mod rows;
 pub mod seven;
 pub mod writers;

@@ -1,8 +1,6 @@
 //! Confidential addresses of Liquid: decoded, encoded, and the texts near one.
 
-use crate::bits::{bytes_of, shown_bytes};
 use crate::listings::numbers;
-use crate::rows::{no_row, word};
 use bech32_correction::{CorrectError, Mended};
 use bech32_gf::gf32::Fe32;
 use bech32_hrp::Hrp;
@@ -12,6 +10,7 @@ use liquid::{
     Address, Blech32, KEY_LENGTH, decode, decode_error_number, encode, encode_error_number,
 };
 use std::alloc::{AllocError, Global};
+use testing_tools::rows::{bytes_of, no_row, shown_bytes, word};
 
 // A number of a refusal.
 fn refused(alloc: Global, number: u8) -> Result<String, AllocError> {

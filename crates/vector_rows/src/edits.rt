@@ -1,9 +1,9 @@
 //! The texts that one edit makes of a text, and that a checksum accepts.
 
-use crate::rows::{no_row, word};
 use bech32_checksum::{Bech32, Bech32m, Checksum, NoChecksum};
 use bech32_near::edits::{Change, NearEdit, near_edits};
 use std::alloc::{AllocError, Global};
+use testing_tools::rows::{no_row, word};
 
 // A text, and the edit that makes it: its kind, its location and its characters.
 fn shown(alloc: Global, near: &NearEdit<String>) -> Result<String, AllocError> {

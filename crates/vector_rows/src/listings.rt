@@ -1,12 +1,12 @@
 //! What is listed for a text that a checksum refuses.
 
-use crate::rows::{no_row, word};
 use bech32_checksum::{Bech32, Bech32m, Checksum};
 use bech32_correction::{CorrectableError, Corrector, ErrorIterator};
 use bech32_decode::CheckedHrpstring;
 use bech32_gf::gf32::Fe32;
 use std::alloc::{AllocError, Global};
 use testing_tools::codes::Degree13;
+use testing_tools::rows::{no_row, word};
 
 /// The numbers of a word, and none for `-`.
 pub fn numbers(alloc: Global, word: &str) -> Result<Vec<usize>, AllocError> {

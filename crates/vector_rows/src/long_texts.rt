@@ -1,7 +1,5 @@
 //! Long texts, encoded and decoded: those whose lines would be too long for `b32`.
 
-use crate::bits::{bytes_of, shown_bytes};
-use crate::rows::{no_row, word};
 use bech32::{
     Checksum, LongBech32, LongBech32m, TextError, decode_elements, decode_strict, encode,
     encode_elements,
@@ -9,6 +7,7 @@ use bech32::{
 use bech32_hrp::Hrp;
 use bech32_numbers::{elements_error_number, encode_error_number, text_decode_error_number};
 use std::alloc::{AllocError, Global};
+use testing_tools::rows::{bytes_of, no_row, shown_bytes, word};
 
 // A number of a refusal.
 fn refused(alloc: Global, number: u8) -> Result<String, AllocError> {

@@ -1,30 +1,16 @@
-//! Prints what each row of standard input gives. A row is words with `|` between two of them, or a
-//! tab:
+//! Prints what each row of standard input gives, of the calls that read, write and correct texts;
+//! `layer_rows` does so of the layers below. A row is words with `|` between two of them, or a tab:
 //!
-//! - `register`, a field and a list: the length of a shortest register of the list, and where there
-//!   is only one, its coefficients and the ten items after the list;
-//! - `field`, a field, two elements and an exponent: the product of the two, and of the first one
-//!   its inverse, its order and its power;
 //! - `listing`, a checksum, a text, erasures and a window: what is listed for the text;
 //! - `edits`, a checksum and a text: each text that the checksum accepts and one edit makes of this
 //!   one, and the edit: `x` two neighbours swapped, `-` a character left out, `+` one put in, with
 //!   its location and the characters;
-//! - `block`, a field, a generator and a target: the block that declares a checksum, or the number
-//!   of the refusal;
-//! - `appended`, a checksum, a human-readable part and elements: the elements with their checksum
-//!   behind them, and their text;
-//! - `bits`, bytes in hex and elements: the elements of the bytes, and the bytes of the elements
-//!   with a last part dropped and with it filled;
 //! - `liquid`, `decode` and a text; or `encode`, a human-readable part, a witness version, a
 //!   blinding key and a program in hex; or `near`, a text, erasures and a number of errors: the
 //!   parts of a confidential address, the address, the texts near one by Blech32, or the number of
 //!   a refusal;
 //! - `long`, and the words of a line of `b32` that encodes or decodes a long text: the reply to the
 //!   line, were it not too long;
-//! - `descriptor` and a text: whether it is a descriptor with its checksum, `none` where it ends in
-//!   none, or `at` the place of a character that may not stand there; and each descriptor that one
-//!   edit makes of it, with the edit, `=` a character changed or as above, and its place from 0;
-//! - `checksum` and a descriptor without one: its checksum;
 //! - `text`, a call and a text: what the call reads, or the refusal and whether it has a residue;
 //! - `written`, a form, a checksum, a human-readable part and bytes: the text in memory, by a
 //!   formatter and by a writer, or the refusal; `elements` for a form takes elements;
@@ -33,10 +19,6 @@
 //! - `length`, a checksum, a human-readable part and bytes: how long the text is, by two calls;
 //! - `segwit`, a human-readable part, a witness version and a program: the address, that by the
 //!   call of its version, and its length by three calls, each or the refusal;
-//! - `walk`, a checksum and a text: what one walk says, what the reading says, what the rules say;
-//!   or `address` and a text: its version and how many characters its program has;
-//! - `plain` and a text: which checksum accepts it by the definition;
-//! - `defined`, a checksum, a human-readable part and bytes: the text by the definition;
 //! - `ways`, a checksum, a text, erasures, a window, a highest location and the location of an
 //!   error to take off: the bound and the window, and what is listed by another corrector with the
 //!   erasures, with them in place of its own, up to the highest location, with them added, and
@@ -47,32 +29,20 @@
 //! - `near`, a checksum, a text, erasures and a number of errors: the texts near it;
 //! - `nearest`, a text, erasures, a number of errors and a window: all listings by Bech32;
 //! - `edited`: as `edits`;
-//! - `detects`, a checksum and a number of characters: whether it detects four errors in them;
-//! - what the modules `of_fields` and `of_parts` list.
+//! - `detects`, a checksum and a number of characters: whether it detects four errors in them.
 //!
-//! Elements are their characters, the constant coefficient first; a generator goes from its highest
-//! coefficient down, without the leading one; `-` stands for nothing. What the rows in `stdin` give
-//! was made twice over and equal, and is in `stdout`: by a reference model written from the
-//! definitions alone, and by the Rust crate bech32 0.12.0; the edits, which that crate does not
-//! have, by two models; Liquid's addresses, long texts, descriptors and the rows of `of_fields` and
-//! `of_parts` by one model each.
+//! Elements are their characters, the constant coefficient first; `-` stands for nothing. What the
+//! rows in `stdin` give was made twice over and equal, and is in `stdout`: by a reference model
+//! written from the definitions alone, and by the Rust crate bech32 0.12.0; the edits, which that
+//! crate does not have, by two models; Liquid's addresses and long texts by one model each.
 #![tactic(auto)]
 
-mod appended;
-mod bits;
-mod blocks;
 mod confidential;
-mod descriptors;
 mod edits;
-mod elements;
-mod fields;
 mod listings;
 mod long_texts;
 mod of_corrections;
-mod of_fields;
-mod of_parts;
 mod of_texts;
-mod registers;
 mod rows;
 
 use std::io;

@@ -7,9 +7,9 @@ mod near;
 mod printed;
 mod ways;
 
-use crate::rows::word;
-use crate::{edits, of_fields};
+use crate::edits;
 use std::alloc::{AllocError, Global};
+use testing_tools::rows::{no_row, word};
 
 /// What a row gives that begins with one of these words.
 pub fn reply(alloc: Global, words: &[&str]) -> Result<String, AllocError> {
@@ -22,6 +22,6 @@ pub fn reply(alloc: Global, words: &[&str]) -> Result<String, AllocError> {
         "nearest" => near::listings_reply(alloc, words),
         "edited" => edits::reply(alloc, words),
         "detects" => detection::reply(alloc, words),
-        _ => of_fields::reply(alloc, words),
+        _ => no_row(alloc),
     }
 }

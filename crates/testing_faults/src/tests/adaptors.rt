@@ -11,7 +11,7 @@ use testing_tools::iterators::TwoItems;
 // The text of the two under `a`, which does not depend on how often they are asked for.
 const TEXT: &str = "a144mh9z97";
 
-// The character, the byte and the element at a place of a text: none behind its end.
+// The character, the byte and the element at a place of a text: none after its end.
 fn char_at(text: &str, place: usize) -> Option<char> {
     Some(char::from(byte_at(text, place)?))
 }
@@ -56,7 +56,7 @@ fn elements_stay_ended<Ck: Checksum>(rt: &impl Abort, hrp: &Hrp) {
     }
 }
 
-// The checksum of two elements behind a human-readable part.
+// The two elements and their checksum, after a human-readable part.
 fn checksum_behind_part<Ck: Checksum>(rt: &impl Abort, hrp: &Hrp) {
     let mut fes = Checksummed::<_, Ck>::new_hrp(*hrp, TwoItems::new(Fe32::_4, None));
     for place in 0..11usize {
@@ -64,7 +64,7 @@ fn checksum_behind_part<Ck: Checksum>(rt: &impl Abort, hrp: &Hrp) {
     }
 }
 
-// The same with none in front.
+// The same without a part.
 fn checksum_alone<Ck: Checksum>(rt: &impl Abort) {
     let mut fes = Checksummed::<_, Ck>::new(TwoItems::new(Fe32::_4, None));
     for place in 0..11usize {
@@ -72,26 +72,21 @@ fn checksum_alone<Ck: Checksum>(rt: &impl Abort) {
     }
 }
 
+fn version_stays_ended(rt: &impl Abort) {
+    let mut fes = WitnessVersionIter::new(Some(Fe32::P), TwoItems::new(Fe32::_4, None));
+    let given = [fes.next(), fes.next(), fes.next()];
+    let after = [fes.next(), fes.next(), fes.next()];
+    let want = [Some(Fe32::P), Some(Fe32::_4), Some(Fe32::_4)];
+    same(rt, &(given, after), &(want, [None; 3]));
+}
+
 #[test]
-fn texts_stay_ended(rt: HostRuntime) {
+fn adaptors_stay_ended(rt: HostRuntime) {
     let hrp = Hrp::parse("a").expect(&rt, "a human-readable part");
     chars_stay_ended::<Bech32>(&rt, &hrp);
     bytes_stay_ended::<Bech32>(&rt, &hrp);
     elements_stay_ended::<Bech32>(&rt, &hrp);
-}
-
-#[test]
-fn checksums_stay_ended(rt: HostRuntime) {
-    let hrp = Hrp::parse("a").expect(&rt, "a human-readable part");
     checksum_behind_part::<Bech32>(&rt, &hrp);
     checksum_alone::<Bech32>(&rt);
-}
-
-#[test]
-fn versions_stay_ended(rt: HostRuntime) {
-    let mut fes = WitnessVersionIter::new(Some(Fe32::P), TwoItems::new(Fe32::_4, None));
-    let given = [fes.next(), fes.next(), fes.next()];
-    let behind = [fes.next(), fes.next(), fes.next()];
-    let want = [Some(Fe32::P), Some(Fe32::_4), Some(Fe32::_4)];
-    same(&rt, &(given, behind), &(want, [None; 3]));
+    version_stays_ended(&rt);
 }

@@ -65,7 +65,7 @@ enum Named {
 }
 
 // The text of the bytes, in the case of the human-readable part or in a given one.
-fn encodes_behind<Ck: Checksum, A: Allocator + Copy>(heap: A, call: Named, hrp: Hrp) -> Answer {
+fn encodes_under<Ck: Checksum, A: Allocator + Copy>(heap: A, call: Named, hrp: Hrp) -> Answer {
     match call {
         Named::EncodeLower => text_is(encode_lower_in::<Ck, A>(heap, hrp, BYTES), TEXT),
         Named::EncodeUpper => text_is(encode_upper_in::<Ck, A>(heap, hrp, BYTES), UPPER_TEXT),
@@ -83,7 +83,7 @@ fn part_of(call: Named) -> &'static str {
 
 fn encodes(heap: Heap<'_>, call: Named) -> Answer {
     match Hrp::parse(part_of(call)) {
-        Ok(hrp) => encodes_behind::<Bech32m, _>(heap, call, hrp),
+        Ok(hrp) => encodes_under::<Bech32m, _>(heap, call, hrp),
         Err(_) => Answer::Other,
     }
 }
@@ -189,29 +189,22 @@ impl Call for Named {
 }
 
 #[test]
-fn texts(rt: HostRuntime) {
-    let alloc = rt.alloc();
+fn calls_or_out_of_memory(rt: HostRuntime) {
     let calls = [
         Named::Encode,
         Named::EncodeLower,
         Named::EncodeUpper,
         Named::ToLowercase,
+        Named::EncodeAddress,
+        Named::EncodeV0,
+        Named::EncodeV1,
+        Named::DetectsFour,
+        Named::Block,
+        Named::Propose,
     ];
-    each_refused(&rt, alloc, &calls);
-    // The bytes are gathered in room that is made at first or as they come.
-    wants_of(&rt, alloc, &Named::Decode);
-}
-
-#[test]
-fn addresses(rt: HostRuntime) {
-    let alloc = rt.alloc();
-    let calls = [Named::EncodeAddress, Named::EncodeV0, Named::EncodeV1];
-    each_refused(&rt, alloc, &calls);
-    wants_of(&rt, alloc, &Named::DecodeAddress);
-}
-
-#[test]
-fn decisions_blocks_and_strings(rt: HostRuntime) {
-    let calls = [Named::DetectsFour, Named::Block, Named::Propose];
     each_refused(&rt, rt.alloc(), &calls);
+    // The bytes are gathered in memory that is taken at first or as they come.
+    for call in [Named::Decode, Named::DecodeAddress] {
+        wants_of(&rt, rt.alloc(), &call);
+    }
 }

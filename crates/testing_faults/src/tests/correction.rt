@@ -292,7 +292,7 @@ impl Call for OfRegister {
 }
 
 #[test]
-fn correctors_as_they_were(rt: HostRuntime) {
+fn correctors_and_registers_as_they_were(rt: HostRuntime) {
     let calls = [
         Asked::AddErasures,
         Asked::EighthErasure,
@@ -303,9 +303,5 @@ fn correctors_as_they_were(rt: HostRuntime) {
         Asked::Clone,
     ];
     each_refused(&rt, rt.alloc(), &calls);
-}
-
-#[test]
-fn registers_as_they_were(rt: HostRuntime) {
     each_refused(&rt, rt.alloc(), &[OfRegister::Massey, OfRegister::Clone]);
 }

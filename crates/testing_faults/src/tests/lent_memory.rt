@@ -11,25 +11,6 @@ fn size_of_memory(memory: Option<Memory>) -> Option<usize> {
     Some(memory?.with_size().0)
 }
 
-// How many bytes leaked memory has.
-fn leaked_size(alloc: Global, size: usize) -> Option<usize> {
-    size_of_memory(Memory::leaked(alloc, size).ok())
-}
-
-#[test]
-fn leaks_memory_of_each_size(rt: HostRuntime) {
-    for size in [0, 1, 15, 16, 17, 4096, 1 << 20] {
-        same(&rt, &leaked_size(rt.alloc(), size), &Some(size));
-    }
-    same(&rt, &leaked_size(rt.alloc(), usize::MAX), &None);
-    // It is taken, and none is left.
-    let mut memory = Memory::leaked(rt.alloc(), 100).expect(&rt, "memory");
-    let taken = memory.take().with_size().0;
-    same(&rt, &[taken, memory.with_size().0], &[100, 0]);
-    // Memory that was not asked for comes back.
-    comes_back(&rt, lent(&rt, rt.alloc(), 100), 100);
-}
-
 // Memory of a size, lent.
 fn lent(rt: &impl Abort, alloc: Global, size: usize) -> Lent {
     Lent::new(Memory::leaked(alloc, size).expect(rt, "memory"))
@@ -74,13 +55,6 @@ fn is_filled_again(rt: &impl Abort, lent: &Lent) {
     }
 }
 
-#[test]
-fn gives_one_block_at_a_time_and_takes_it_back(rt: HostRuntime) {
-    let lent = lent(&rt, rt.alloc(), 100);
-    is_filled_again(&rt, &lent);
-    comes_back(&rt, lent, 100);
-}
-
 // Whether there is memory for this many bytes.
 fn has_bytes(lent: &Lent, count: usize) -> bool {
     Vec::<u8, &Lent>::with_capacity(lent, count).is_ok()
@@ -101,21 +75,20 @@ fn has_all_up_to(lent: &Lent, most: usize) -> bool {
     true
 }
 
-// Of bytes and of whole numbers; each that fits is given.
-#[test]
-fn gives_no_block_that_does_not_fit(rt: HostRuntime) {
-    let small = lent(&rt, rt.alloc(), 100);
+// Of bytes and of whole numbers each block that fits is given, and no other one.
+fn gives_what_fits(rt: &impl Abort, alloc: Global) {
+    let small = lent(rt, alloc, 100);
     let given = [
         has_bytes(&small, 97),
         has_numbers(&small, 7),
         has_numbers(&small, 6),
     ];
-    same(&rt, &given, &[false, false, true]);
-    comes_back(&rt, small, 100);
-    let large = lent(&rt, rt.alloc(), 65536);
+    same(rt, &given, &[false, false, true]);
+    comes_back(rt, small, 100);
+    let large = lent(rt, alloc, 65536);
     let given = [has_all_up_to(&large, 65536), has_bytes(&large, 65537)];
-    same(&rt, &given, &[true, false]);
-    comes_back(&rt, large, 65536);
+    same(rt, &given, &[true, false]);
+    comes_back(rt, large, 65536);
 }
 
 // Takes a block that never comes back.
@@ -128,44 +101,52 @@ fn arena_size(lent: &Lent) -> usize {
     lent.arena().chunk_capacity()
 }
 
-// Fails where an arena over so much memory has another number of bytes to give.
-fn is_arena(rt: &impl Abort, alloc: Global, size: usize, want: usize) {
-    let found = arena_size(&lent(rt, alloc, size));
-    same(rt, &(size, found), &(size, want));
-}
-
-// An arena has all whole pages, but for 64 bytes; the last page is whole without its last 16.
-#[test]
-fn arena_over_all_pages(rt: HostRuntime) {
-    for (size, want) in [
-        (4079, 0),
-        (4080, 4032),
-        (8175, 4032),
-        (8176, 8128),
-        (12272, 12224),
-        (65520, 65472),
-    ] {
-        is_arena(&rt, rt.alloc(), size, want);
-    }
-}
-
-// The same where a block of it is out.
+// The same while a block of it is out.
 fn arena_size_beside_block(rt: &impl Abort, lent: &Lent) -> usize {
     let _block = Box::new(lent, 0u8).expect(rt, "memory");
     arena_size(lent)
 }
 
-#[test]
-fn memory_with_a_block_that_is_out(rt: HostRuntime) {
-    let whole = lent(&rt, rt.alloc(), 8192);
-    same(&rt, &arena_size_beside_block(&rt, &whole), &0);
-    comes_back(&rt, whole, 8192);
-    // It is kept where the block never comes back.
-    let kept = lent(&rt, rt.alloc(), 100);
-    keep_block(&rt, &kept);
+// Memory of which a block is out has nothing for an arena, and is kept if the block never comes
+// back.
+fn is_kept_with_its_block(rt: &impl Abort, alloc: Global) {
+    let whole = lent(rt, alloc, 8192);
+    same(rt, &arena_size_beside_block(rt, &whole), &0);
+    comes_back(rt, whole, 8192);
+    let kept = lent(rt, alloc, 100);
+    keep_block(rt, &kept);
     let is_refused = is_out(&kept);
     let back = size_of_memory(kept.into_memory());
-    same(&rt, &(is_refused, back), &(true, None));
+    same(rt, &(is_refused, back), &(true, None));
+}
+
+#[test]
+fn gives_one_block_at_a_time_and_takes_it_back(rt: HostRuntime) {
+    let lent = lent(&rt, rt.alloc(), 100);
+    is_filled_again(&rt, &lent);
+    comes_back(&rt, lent, 100);
+    gives_what_fits(&rt, rt.alloc());
+    is_kept_with_its_block(&rt, rt.alloc());
+}
+
+// Memory that was not asked for comes back; what is taken leaves none; memory that there is not is
+// refused.
+fn leaks_and_is_taken(rt: &impl Abort, alloc: Global) {
+    comes_back(rt, lent(rt, alloc, 100), 100);
+    let mut memory = Memory::leaked(alloc, 100).expect(rt, "memory");
+    let taken = memory.take().with_size().0;
+    same(rt, &[taken, memory.with_size().0], &[100, 0]);
+    same(
+        rt,
+        &size_of_memory(Memory::leaked(alloc, usize::MAX).ok()),
+        &None,
+    );
+}
+
+// An arena has all whole pages, but for 64 bytes; the last page is whole without its last 16.
+fn arena_size_of(size: usize) -> usize {
+    let pages = size.saturating_add(16) / 4096;
+    (pages * 4096).saturating_sub(64)
 }
 
 // Fails where memory of a size does not give all of it as a block, and an arena over its pages, or
@@ -175,18 +156,23 @@ fn gives_all(rt: &impl Abort, alloc: Global, size: usize) {
     let has_whole = has_numbers(&lent, size / 16);
     let in_arena = arena_size(&lent);
     let found = (has_whole, in_arena, size_of_memory(lent.into_memory()));
-    let pages = size.saturating_add(16) / 4096;
-    let want = (true, (pages * 4096).saturating_sub(64), Some(size));
+    let want = (true, arena_size_of(size), Some(size));
     same(rt, &(size, found), &(size, want));
 }
 
+// Sizes around those of blocks and of pages, and large ones.
+const SIZES: [usize; 15] = [
+    1, 15, 16, 17, 4079, 4080, 8175, 8176, 12272, 65520, 100_000, 131_072, 1_048_576, 8_388_608,
+    67_108_864,
+];
+
 #[test]
 fn memory_of_many_sizes_gives_all_and_comes_back(rt: HostRuntime) {
+    leaks_and_is_taken(&rt, rt.alloc());
     for i in 0..=256usize {
         gives_all(&rt, rt.alloc(), i * 256 + i % 16);
     }
-    gives_all(&rt, rt.alloc(), 100_000);
-    gives_all(&rt, rt.alloc(), 1 << 17);
-    gives_all(&rt, rt.alloc(), 1 << 23);
-    gives_all(&rt, rt.alloc(), 1 << 26);
+    for size in SIZES {
+        gives_all(&rt, rt.alloc(), size);
+    }
 }

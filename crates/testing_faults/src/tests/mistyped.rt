@@ -142,7 +142,7 @@ impl Call for Mistyped {
     }
 }
 
-// By Bech32 and by codex32, with two of its four errors as erasures.
+// Corrected by Bech32, and by codex32 with two of its four errors as erasures.
 const CORRECTED: &[Mistyped] = &[
     Mistyped {
         asked: Asked::Corrected,
@@ -157,11 +157,6 @@ const CORRECTED: &[Mistyped] = &[
         near: &["ms10testsxxxxxxxxxxxxxxxxxxxxxxxxxx4nzvca9cmczlw"],
     },
 ];
-
-#[test]
-fn corrections(rt: HostRuntime) {
-    each_refused(&rt, rt.alloc(), CORRECTED);
-}
 
 // The address, one with two wrong characters, and one that three are near to.
 const NEAREST: &[Mistyped] = &[
@@ -189,11 +184,6 @@ const NEAREST: &[Mistyped] = &[
     },
 ];
 
-#[test]
-fn near_texts(rt: HostRuntime) {
-    each_refused(&rt, rt.alloc(), NEAREST);
-}
-
 // The address without a character, and one with two neighbours swapped. A text that ends in `qp`
 // has two texts more: Bech32 accepts it with any number of `q` there.
 const EDITED: &[Mistyped] = &[
@@ -218,6 +208,8 @@ const EDITED: &[Mistyped] = &[
 ];
 
 #[test]
-fn edits(rt: HostRuntime) {
-    each_refused(&rt, rt.alloc(), EDITED);
+fn near_texts_or_out_of_memory(rt: HostRuntime) {
+    for calls in [CORRECTED, NEAREST, EDITED] {
+        each_refused(&rt, rt.alloc(), calls);
+    }
 }

@@ -94,17 +94,13 @@ impl Call for Made {
 }
 
 #[test]
-fn strings_of_shares(rt: HostRuntime) {
+fn strings_or_out_of_memory(rt: HostRuntime) {
     let calls = [
         Made::Derived,
         Made::Recovered,
         Made::OfBytes,
         Made::OfElements,
+        Made::NearestLong,
     ];
     each_refused(&rt, rt.alloc(), &calls);
-}
-
-#[test]
-fn the_nearest_long_string(rt: HostRuntime) {
-    each_refused(&rt, rt.alloc(), &[Made::NearestLong]);
 }

@@ -10,11 +10,6 @@ pub fn same<T: PartialEq + Debug>(rt: &impl Abort, got: &T, want: &T) {
     assert_eq!(rt; got, want);
 }
 
-/// Fails where the two differ.
-pub fn same_items<T: PartialEq + Debug>(rt: &impl Abort, got: &[T], want: &[T]) {
-    assert_eq!(rt; got, want);
-}
-
 /// Fails where a value prints another text.
 pub fn prints<T: Display>(rt: &impl Abort, alloc: Global, value: &T, want: &str) {
     same(rt, &shown(alloc, value).as_str(), &want);

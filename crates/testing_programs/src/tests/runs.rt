@@ -66,23 +66,13 @@ fn answered(front: &[u8]) -> &'static [u8] {
     OUTPUT
 }
 
-#[test]
-fn empty_input(rt: HostRuntime) {
-    let mut input = b"".as_slice();
-    let mut out = Vec::new(rt.alloc());
-    let outcome = run(rt.alloc(), &mut input, &mut out);
-    same(&rt, &(outcome, out.as_slice()), &(Ok(()), b"".as_slice()));
-}
-
-#[test]
-fn ends_are_printed(rt: HostRuntime) {
-    let alloc = rt.alloc();
-    prints(&rt, alloc, &RunError::Read, "b32: reading failed");
-    prints(&rt, alloc, &RunError::Write, "b32: writing failed");
-    prints(&rt, alloc, &RunError::Memory, "b32: no memory");
-    prints(&rt, alloc, &line_program::RunError::Read, "reading failed");
-    prints(&rt, alloc, &line_program::RunError::Write, "writing failed");
-    prints(&rt, alloc, &line_program::RunError::Memory, "out of memory");
+fn ends_are_printed(rt: &impl Abort, alloc: Global) {
+    prints(rt, alloc, &RunError::Read, "b32: reading failed");
+    prints(rt, alloc, &RunError::Write, "b32: writing failed");
+    prints(rt, alloc, &RunError::Memory, "b32: no memory");
+    prints(rt, alloc, &line_program::RunError::Read, "reading failed");
+    prints(rt, alloc, &line_program::RunError::Write, "writing failed");
+    prints(rt, alloc, &line_program::RunError::Memory, "out of memory");
 }
 
 // Fails where the end of a run has another status, or is told by another line.
@@ -101,6 +91,7 @@ fn ends<E: Reason + Copy>(
 #[test]
 fn ends_are_told(rt: HostRuntime) {
     let alloc = rt.alloc();
+    ends_are_printed(&rt, alloc);
     ends(
         &rt,
         alloc,
@@ -127,8 +118,53 @@ fn ends_are_told(rt: HostRuntime) {
     );
 }
 
-// What a run over the input is to answer and to write where the read of the byte at `room` fails.
-fn after_reading(room: usize) -> (Result<(), RunError>, &'static [u8]) {
+// How a run ends, and what it writes.
+type End<'a> = (Result<(), RunError>, &'a [u8]);
+
+// Fails where a run over a reader ends otherwise, or writes other bytes. The writer has room for
+// this many, and may be stuck.
+fn ends_so(
+    rt: &impl Abort,
+    alloc: Global,
+    mut reader: Faulty<'_>,
+    (room, stuck): (usize, bool),
+    want: End<'_>,
+) {
+    let rooms = (reader.room, room);
+    let mut writer = Narrow {
+        got: Vec::new(alloc),
+        room,
+        step: 4,
+        stuck,
+    };
+    let outcome = run(alloc, &mut reader, &mut writer);
+    same(
+        rt,
+        &(rooms, (outcome, writer.got.as_slice())),
+        &(rooms, want),
+    );
+}
+
+// Gives the input, a byte a call, up to the one at `room`.
+fn reader_up_to(room: usize) -> Faulty<'static> {
+    Faulty {
+        left: INPUT,
+        room,
+        step: 1,
+    }
+}
+
+// Gives the whole input.
+fn whole_reader() -> Faulty<'static> {
+    Faulty {
+        left: INPUT,
+        room: 1000,
+        step: 1000,
+    }
+}
+
+// The end of a run whose read of the byte at `room` fails.
+fn after_reading(room: usize) -> End<'static> {
     if room < INPUT.len() {
         (Err(RunError::Read), answered(&INPUT[..room]))
     } else {
@@ -136,81 +172,36 @@ fn after_reading(room: usize) -> (Result<(), RunError>, &'static [u8]) {
     }
 }
 
-// Fails where it does not.
-fn reads(rt: &impl Abort, alloc: Global, room: usize) {
-    let mut reader = Faulty {
-        left: INPUT,
-        room,
-        step: 1,
-    };
-    let mut out = Vec::new(alloc);
-    let outcome = run(alloc, &mut reader, &mut out);
-    let (want, replies) = after_reading(room);
-    same(rt, &(room, outcome, out.as_slice()), &(room, want, replies));
-}
-
-#[test]
-fn reads_that_fail(rt: HostRuntime) {
-    for room in 0..=INPUT.len() {
-        reads(&rt, rt.alloc(), room);
-    }
-}
-
-// What a run over the input is to answer where no more than `room` bytes can be written.
-fn after_writing(room: usize) -> Result<(), RunError> {
+// The end of a run that can write no more than `room` bytes.
+fn after_writing(room: usize) -> End<'static> {
     if room < OUTPUT.len() {
-        Err(RunError::Write)
+        (Err(RunError::Write), &OUTPUT[..room])
     } else {
-        Ok(())
+        (Ok(()), OUTPUT)
     }
-}
-
-// Fails where it does not, or writes other bytes than the first, this many.
-fn writes(rt: &impl Abort, alloc: Global, room: usize) {
-    let mut reader = INPUT;
-    let mut writer = Narrow {
-        got: Vec::new(alloc),
-        room,
-        step: 4,
-        stuck: false,
-    };
-    let outcome = run(alloc, &mut reader, &mut writer);
-    let (front, _) = OUTPUT.split_at(room.min(OUTPUT.len()));
-    same(
-        rt,
-        &(room, outcome, writer.got.as_slice()),
-        &(room, after_writing(room), front),
-    );
 }
 
 #[test]
-fn writes_that_fail(rt: HostRuntime) {
-    for room in 0..=OUTPUT.len() {
-        writes(&rt, rt.alloc(), room);
-    }
-}
-
-// Fails where a run is not told of the flush that fails, whether reading fails at `room` or not.
-fn flushes(rt: &impl Abort, alloc: Global, room: usize) {
-    let mut reader = Faulty {
-        left: INPUT,
-        room,
+fn devices_that_fail(rt: HostRuntime) {
+    let alloc = rt.alloc();
+    let nothing = Faulty {
+        left: b"",
+        room: 0,
         step: 1,
     };
-    let mut writer = Narrow {
-        got: Vec::new(alloc),
-        room: 1000,
-        step: 1000,
-        stuck: true,
-    };
-    let outcome = run(alloc, &mut reader, &mut writer);
-    same(rt, &(room, outcome), &(room, Err(RunError::Write)));
-}
-
-#[test]
-fn flushes_that_fail(rt: HostRuntime) {
+    ends_so(&rt, alloc, nothing, (0, false), (Ok(()), b""));
+    for room in 0..=INPUT.len() {
+        let want = after_reading(room);
+        ends_so(&rt, alloc, reader_up_to(room), (1000, false), want);
+    }
+    for room in 0..=OUTPUT.len() {
+        let want = after_writing(room);
+        ends_so(&rt, alloc, whole_reader(), (room, false), want);
+    }
+    // A flush that fails is told, whether reading fails or not.
     for room in [0, 30, 1000] {
-        flushes(&rt, rt.alloc(), room);
+        let want = (Err(RunError::Write), after_reading(room).1);
+        ends_so(&rt, alloc, reader_up_to(room), (1000, true), want);
     }
 }
 

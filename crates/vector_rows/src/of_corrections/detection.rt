@@ -1,11 +1,11 @@
 //! Whether each pattern of up to four errors is detected.
 
-use crate::rows::{no_row, word};
 use bech32::primitives::checksum::detects_four;
 use bech32::{Bech32, Bech32m};
 use bech32_descriptor::Descriptor;
 use std::alloc::{AllocError, Global};
 use testing_tools::codes::{Degree13, Tiny};
+use testing_tools::rows::{no_row, word};
 
 // An answer.
 fn shown(alloc: Global, detects: bool) -> Result<String, AllocError> {

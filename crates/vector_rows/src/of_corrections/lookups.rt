@@ -1,14 +1,13 @@
 //! Corrections that Bech32 and Bech32m look up.
 
 use super::ways::shown;
-use crate::elements::digits;
 use crate::listings::numbers;
-use crate::rows::{no_row, word};
 use bech32::{Bech32, Bech32m, Checksum};
 use bech32_correction::lookup_listing;
 use bech32_decode::Reading;
 use bech32_gf::gf32::Fe32;
 use std::alloc::{AllocError, Global};
+use testing_tools::rows::{digits, no_row, word};
 
 // The one error that leaves a residue.
 fn one_error<Ck: Checksum>(alloc: Global, residue: &[Fe32]) -> Result<String, AllocError> {

@@ -1,11 +1,11 @@
 //! Texts corrected by one call.
 
 use crate::listings::numbers;
-use crate::rows::{no_row, word};
 use bech32::{Bech32, Bech32m, CorrectError, CorrectingChecksum, Correction, Mended, NoChecksum};
 use bech32_correction::{Corrector, correct};
 use std::alloc::{AllocError, Global};
 use std::marker::PhantomData;
+use testing_tools::rows::{no_row, word};
 
 // What is said of a text.
 fn shown<C: Drop>(

@@ -2,7 +2,6 @@
 
 use super::ways::{corrector_for, shown as shown_listing};
 use crate::listings::numbers;
-use crate::rows::{no_row, word};
 use bech32::{
     Bech32, Bech32m, CorrectError, CorrectingChecksum, Listings, Mended, NearTexts, NoChecksum,
     nearest, nearest_listings,
@@ -10,6 +9,7 @@ use bech32::{
 use bech32_correction::Corrector;
 use std::alloc::{AllocError, Global};
 use std::marker::PhantomData;
+use testing_tools::rows::{no_row, word};
 
 // Appends a text, after a space where there are others.
 fn push(line: &mut String, text: &str) -> Result<(), AllocError> {

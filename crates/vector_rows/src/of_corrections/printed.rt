@@ -2,10 +2,10 @@
 
 use super::ways::corrector_for;
 use crate::listings::numbers;
-use crate::rows::{no_row, word};
 use bech32::Bech32;
 use bech32_correction::Corrector;
 use std::alloc::{AllocError, Global};
+use testing_tools::rows::{no_row, word};
 
 // What is printed of a corrector, where there is one.
 fn shown(

@@ -1,7 +1,6 @@
 //! What a corrector lists, in each way to ask it.
 
 use crate::listings::numbers;
-use crate::rows::{no_row, word};
 use bech32::primitives::decode::{CheckedHrpstring, SegwitHrpstring};
 use bech32::{Bech32, Checksum, CorrectableError};
 use bech32_bch::ShortVec;
@@ -9,6 +8,7 @@ use bech32_correction::{Corrector, ErrorIterator, Question};
 use bech32_gf::gf32::Fe32;
 use std::alloc::{AllocError, Global};
 use testing_tools::codes::{Altered, Degree13, Tiny};
+use testing_tools::rows::{no_row, word};
 
 /// The corrector of an error for a window, which is the code length for `-`.
 fn corrector_of<Ck: Checksum>(

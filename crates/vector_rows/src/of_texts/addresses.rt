@@ -2,14 +2,13 @@
 
 use super::lengths;
 use super::refusals::text_or_message;
-use crate::bits::bytes_of;
-use crate::rows::{no_row, word};
 use bech32::Hrp;
 use bech32::segwit::{
     address_length_of_part, encode, encode_v0, encode_v1, encoded_length, encoded_length_of_part,
 };
 use bech32_gf::gf32::Fe32;
 use std::alloc::{AllocError, Global};
+use testing_tools::rows::{bytes_of, no_row, word};
 
 // The address by the call of its version, which versions 0 and 1 have.
 fn by_version(

@@ -1,10 +1,9 @@
 //! How long texts are.
 
-use crate::bits::bytes_of;
-use crate::rows::{no_row, word};
 use bech32::{Bech32, Bech32m, Checksum, Hrp, encoded_length, encoded_length_of_part};
 use std::alloc::{AllocError, Global};
 use std::fmt::Display;
+use testing_tools::rows::{bytes_of, no_row, word};
 
 /// A length, or why there is none.
 pub fn shown<E: Display + Drop>(

@@ -1,8 +1,6 @@
 //! What a text is read as, or why it is refused.
 
 use super::refusals;
-use crate::bits::shown_bytes;
-use crate::rows::{no_row, word};
 use bech32::primitives::decode::{
     CheckedHrpstring, ChecksumError, SegwitHrpstring, UncheckedHrpstring,
 };
@@ -13,6 +11,7 @@ use bech32::{
 use bech32_gf::gf32::Fe32;
 use std::alloc::{AllocError, Global};
 use std::fmt::Display;
+use testing_tools::rows::{no_row, shown_bytes, word};
 
 // A human-readable part, and bytes.
 fn shown_parts(alloc: Global, hrp: &Hrp, bytes: &[u8]) -> Result<String, AllocError> {

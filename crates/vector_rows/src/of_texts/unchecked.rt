@@ -1,9 +1,6 @@
 //! Addresses that are written without any test.
 
 use super::refusals::written_or_message;
-use super::written::characters;
-use crate::bits::bytes_of;
-use crate::rows::{no_row, word};
 use bech32::Hrp;
 use bech32::segwit::{
     encode_lower_to_fmt_unchecked, encode_lower_to_writer_unchecked, encode_to_fmt_unchecked,
@@ -12,6 +9,7 @@ use bech32::segwit::{
 use bech32_gf::gf32::Fe32;
 use std::alloc::{AllocError, Global};
 use std::{fmt, io};
+use testing_tools::rows::{bytes_of, characters, no_row, word};
 
 // Writes the address of these to a string.
 fn put_in_string(

@@ -1,14 +1,13 @@
 //! Texts that are written.
 
 use super::refusals::{text_or_message, written_or_message};
-use crate::bits::bytes_of;
-use crate::rows::{no_row, word};
 use bech32::{
     Bech32, Bech32m, Checksum, EncodeError, EncodeIoError, Hrp, NoChecksum, encode,
     encode_elements, encode_lower, encode_lower_to_fmt, encode_lower_to_writer, encode_to_fmt,
     encode_to_writer, encode_upper, encode_upper_to_fmt, encode_upper_to_writer,
 };
 use std::alloc::{AllocError, Global};
+use testing_tools::rows::{bytes_of, characters, no_row, word};
 
 // The case of a text.
 #[derive(Clone, Copy)]
@@ -71,11 +70,6 @@ fn put_in_bytes<Ck: Checksum>(
         Case::Lower => encode_lower_to_writer::<Ck, Vec<u8>>(bytes, hrp, data),
         Case::Upper => encode_upper_to_writer::<Ck, Vec<u8>>(bytes, hrp, data),
     }
-}
-
-// The text of characters.
-pub fn characters(alloc: Global, bytes: &[u8]) -> Result<String, AllocError> {
-    bytes.iter().copied().map(char::from).collect(alloc)
 }
 
 // The text that is written to bytes; where it is refused, the refusal and what was written.

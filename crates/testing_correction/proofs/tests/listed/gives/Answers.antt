@@ -1,4 +1,0 @@
-use Rattle.testing_correction.proofs.tests.listed.gives.Goals as goal
-
-pub loop-error-preserved : goal.loop-error-preserved
-loop-error-preserved g c = (tt, tt)

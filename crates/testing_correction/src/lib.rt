@@ -1,6 +1,0 @@
-//! Tests of `bech32_detect`, `bech32_correction` and `bech32_near`. Values are rows of
-//! `vector_rows`.
-#![tactic(auto)]
-
-#[cfg(test)]
-mod tests;

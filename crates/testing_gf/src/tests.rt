@@ -1,6 +1,0 @@
-mod compare;
-mod fields;
-mod fieldvec;
-mod lfsr;
-mod memory;
-mod polynomial;
