@@ -2,7 +2,6 @@ mod checksum;
 mod compare;
 mod damaged;
 mod every_length;
-mod known;
 mod memory;
 mod messages;
 mod payloads;

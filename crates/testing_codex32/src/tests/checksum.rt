@@ -26,14 +26,6 @@ fn codex32_is_sane() -> bool
     Codex32::sanity_check()
 }
 
-// For longer texts its roots do not serve.
-#[test]
-fn lawful_roots(rt: HostRuntime) {
-    let sane = [codex32_is_sane(), Degree13::<94>::sanity_check()];
-    let is_accepted = CheckedHrpstring::new::<Codex32>(TEXT).is_ok();
-    same(&rt, &(sane, is_accepted), &([true, false], true));
-}
-
 // Locations with the values to add there.
 type Listing<'a> = &'a [(usize, Fe32)];
 
@@ -129,21 +121,6 @@ const LAST_EIGHT: &[usize] = &[0, 1, 2, 3, 4, 5, 6, 7];
 
 const LAST_NINE: &[usize] = &[0, 1, 2, 3, 4, 5, 6, 7, 8];
 
-// BIP-93, Error correction: four errors, or eight erasures; a code of 93 characters.
-#[test]
-fn listed_errors(rt: HostRuntime) {
-    let bounds = bounds_by(corrector_of::<Codex32>(rt.alloc(), FOUR_ERRORS));
-    same(&rt, &bounds, &Some((8, 93)));
-    let [zero, w, x, last] = FOUR;
-    let listed = [
-        is_listed(rt.alloc(), FOUR_ERRORS, &[], Some(&[w, zero, x, last])),
-        is_listed(rt.alloc(), FOUR_ERRORS, &[44, 0], Some(&FOUR)),
-        is_listed(rt.alloc(), EIGHT_ERRORS, LAST_EIGHT, Some(&EIGHT)),
-        is_listed(rt.alloc(), EIGHT_ERRORS, LAST_NINE, None),
-    ];
-    same(&rt, &listed, &[true; 4]);
-}
-
 // The text with an element added at a location.
 fn altered(rt: &impl Abort, location: usize, value: Fe32) -> [u8; 48] {
     let mut bytes = *BYTES;
@@ -191,8 +168,23 @@ const CORRECTED: &[(&str, &[usize], bool)] = &[
     (EIGHT_ERRORS, LAST_NINE, false),
 ];
 
+// BIP-93, Error correction: four errors, or eight erasures; a code of 93 characters. For longer
+// texts its roots do not serve.
 #[test]
-fn texts_corrected_by_one_call(rt: HostRuntime) {
+fn listed_errors(rt: HostRuntime) {
+    let sane = [codex32_is_sane(), Degree13::<94>::sanity_check()];
+    let is_accepted = CheckedHrpstring::new::<Codex32>(TEXT).is_ok();
+    same(&rt, &(sane, is_accepted), &([true, false], true));
+    let bounds = bounds_by(corrector_of::<Codex32>(rt.alloc(), FOUR_ERRORS));
+    same(&rt, &bounds, &Some((8, 93)));
+    let [zero, w, x, last] = FOUR;
+    let listed = [
+        is_listed(rt.alloc(), FOUR_ERRORS, &[], Some(&[w, zero, x, last])),
+        is_listed(rt.alloc(), FOUR_ERRORS, &[44, 0], Some(&FOUR)),
+        is_listed(rt.alloc(), EIGHT_ERRORS, LAST_EIGHT, Some(&EIGHT)),
+        is_listed(rt.alloc(), EIGHT_ERRORS, LAST_NINE, None),
+    ];
+    same(&rt, &listed, &[true; 4]);
     for &(text, erasures, want) in CORRECTED {
         let is_corrected = mends(&correct::<Codex32, _>(rt.alloc(), text, erasures), TEXT);
         same(

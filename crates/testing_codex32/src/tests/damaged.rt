@@ -4,7 +4,7 @@ use crate::tests::compare::same;
 use bech32_hrp::Error as HrpError;
 use bech32_refusals::CharError::{InvalidChar, MissingSeparator, MixedCase};
 use bech32_refusals::UncheckedHrpstringError::{self, Char, Hrp};
-use codex32::{Codex32Error, propose, validate_damaged};
+use codex32::{Codex32Error, Codex32Str, propose, validate_damaged};
 use linked_list_allocator::LocalHeap;
 use std::alloc::Global;
 use std::process::Abort;
@@ -54,10 +54,10 @@ const OUTSIDE_THE_GRAMMAR: &[(&str, UncheckedHrpstringError)] = &[
     ),
 ];
 
-#[test]
-fn characters_of_damaged_texts(rt: HostRuntime) {
+// Fails where a text outside the grammar has another fault.
+fn are_outside_the_grammar(rt: &impl Abort, alloc: Global) {
     for &(text, error) in OUTSIDE_THE_GRAMMAR {
-        has_fault(&rt, rt.alloc(), text, Some(Codex32Error::Text(error)));
+        has_fault(rt, alloc, text, Some(Codex32Error::Text(error)));
     }
 }
 
@@ -85,8 +85,13 @@ const OUTLINES: [(&str, Option<Codex32Error>); 8] = [
     ("ms1?????????????????????????????????????????????", None),
 ];
 
+// A text without marks has the same fault as a string.
 #[test]
-fn outlines_of_damaged_texts(rt: HostRuntime) {
+fn faults_of_damaged_texts(rt: HostRuntime) {
+    are_outside_the_grammar(&rt, rt.alloc());
+    let text = "ms10testsxxxxxxxxxxxxxxxxxxxxxxxxxx4nzvca9cmczlb";
+    let fault = Some(Codex32Error::Text(Char(InvalidChar('b'))));
+    same(&rt, &Codex32Str::parse(text).err(), &fault);
     for &(text, fault) in OUTLINES.iter() {
         has_fault(&rt, rt.alloc(), text, fault);
     }

@@ -94,61 +94,61 @@ const TEXT: &str = "ms10testsxxxxxxxxxxxxxxxxxxxxxxxxxx4nzvca9cmczlw";
 const LONG: &str =
     "ms100c8vsm32zxfguhpchtlupzry9x8gf2tvdw0s3jn54khce6mua7lqpzygsfjd6an074rxvcemlh8wu3tk925acdefghjklmnpqrstuvwxy06fhpv80undvarhrak";
 
-// The text itself and damaged ones, each with the text that is proposed.
-const PROPOSED: &[(Call, &str, &str)] = &[
-    (Call::Propose, TEXT, TEXT),
-    (Call::Propose, FOUR_ERRORS, TEXT),
+// The text itself and damaged ones, each with the text that is proposed and with a number of heaps;
+// then calls that are given no text.
+const MADE: &[(Call, &str, &str, usize)] = &[
+    (Call::Propose, TEXT, TEXT, 96),
+    (Call::Propose, FOUR_ERRORS, TEXT, 96),
     (
         Call::Propose,
         "ms10testsxxxxxxxxxxxxxxxxxxxxxxxxxx4nzvc????????",
         TEXT,
+        96,
     ),
-    (Call::ProposeLong, LONG, LONG),
+    (Call::ProposeLong, LONG, LONG, 96),
     (
         Call::ProposeLong,
         "ms100c8vsm32zxfguhpchtlupzqqqq8gf2tvdw0s3jn54khce6mua7lqpzygsfjd6an074rxvcemlh8wu3tk925acdefghjklmnpqrstuvwxy06fhpv80undvarhrak",
         LONG,
+        96,
     ),
     (
         Call::ProposeLong,
         "ms100c8vsm32zxfguhpchtlupzry9x8gf2tvdw0s3jn54khce6mua7lqpzygsfjd6an074rxvcemlh8wu3tk925acdefghjklmnpqrstuvwxy06fhpv80un????????",
         LONG,
+        96,
+    ),
+    (
+        Call::Derive,
+        "",
+        "ms12namedll4f8jlh4e5vdvuldlfxu2jhdnlsm97xvenrxeg",
+        32,
+    ),
+    (
+        Call::Recover,
+        "",
+        "ms12names6xqguzttxkeqnjsjzv4jv3nz5k3kwgsphuh6evw",
+        32,
+    ),
+    (Call::Encode, "", "ms10testsqqqqqqqqqqqqqqqqqqqqqqqqqq", 32),
+    (
+        Call::EncodePayload(26),
+        "",
+        "ms10testsqqqqqqqqqqqqqqqqqqqqqqqqqq",
+        32,
+    ),
+    (
+        Call::EncodePayload(103),
+        "",
+        "ms10testsqqqqqqqqqqqqqqqqqqqqqqqqqq",
+        32,
     ),
 ];
 
 #[test]
 fn the_text_or_out_of_memory(rt: HostRuntime) {
-    for &(call, text, front) in PROPOSED {
+    for &(call, text, front, heaps) in MADE {
         let made = Made { call, text, front };
-        right_or_wants_memory(rt.alloc(), &made, (96, 16)).expect(&rt, text);
-    }
-}
-
-const MADE: &[(Call, &str)] = &[
-    (
-        Call::Derive,
-        "ms12namedll4f8jlh4e5vdvuldlfxu2jhdnlsm97xvenrxeg",
-    ),
-    (
-        Call::Recover,
-        "ms12names6xqguzttxkeqnjsjzv4jv3nz5k3kwgsphuh6evw",
-    ),
-    (Call::Encode, "ms10testsqqqqqqqqqqqqqqqqqqqqqqqqqq"),
-    (
-        Call::EncodePayload(26),
-        "ms10testsqqqqqqqqqqqqqqqqqqqqqqqqqq",
-    ),
-    (
-        Call::EncodePayload(103),
-        "ms10testsqqqqqqqqqqqqqqqqqqqqqqqqqq",
-    ),
-];
-
-#[test]
-fn the_made_string_or_out_of_memory(rt: HostRuntime) {
-    for &(call, front) in MADE {
-        let text = "";
-        let made = Made { call, text, front };
-        right_or_wants_memory(rt.alloc(), &made, (32, 16)).expect(&rt, front);
+        right_or_wants_memory(rt.alloc(), &made, (heaps, 16)).expect(&rt, front);
     }
 }

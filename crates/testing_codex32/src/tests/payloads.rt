@@ -3,7 +3,7 @@
 use crate::tests::compare::same;
 use crate::tests::shares::share;
 use bech32_gf::gf32::Fe32;
-use codex32::{EncodeError, Header, encode, encode_payload, encode_payload_into};
+use codex32::{EncodeError, Header, encode_payload, encode_payload_into};
 use std::alloc::Global;
 use std::process::Abort;
 
@@ -48,39 +48,10 @@ const STRINGS: &[&str] = &[
     "ms16ss6m6k2wt80qrm8p0434xe0fmlrstq9z56mr6w0wk6t8hmjshnkhyxp3lclwzd90f82tzlupr2exzqxuj0gyf83g9zv2r7a5x2sz2vel9tz2lupf0qjlmzge8e4",
 ];
 
-// The numbers of bytes that a string has, and of the elements of these (BIP-93).
-const COUNTS: &[(usize, usize)] = &[
-    (16, 26),
-    (17, 28),
-    (18, 29),
-    (19, 31),
-    (20, 32),
-    (21, 34),
-    (22, 36),
-    (23, 37),
-    (24, 39),
-    (25, 40),
-    (26, 42),
-    (27, 44),
-    (28, 45),
-    (29, 47),
-    (30, 48),
-    (31, 50),
-    (32, 52),
-    (33, 53),
-    (34, 55),
-    (35, 56),
-    (36, 58),
-    (37, 60),
-    (38, 61),
-    (39, 63),
-    (40, 64),
-    (41, 66),
-    (42, 68),
-    (43, 69),
-    (44, 71),
-    (63, 101),
-    (64, 103),
+// The numbers of elements that a payload has: those of 16 to 44 bytes, and of 63 and 64 (BIP-93).
+const COUNTS: &[usize] = &[
+    26, 28, 29, 31, 32, 34, 36, 37, 39, 40, 42, 44, 45, 47, 48, 50, 52, 53, 55, 56, 58, 60, 61, 63,
+    64, 66, 68, 69, 71, 101, 103,
 ];
 
 // Puts the elements of characters.
@@ -113,37 +84,6 @@ fn comes_again(rt: &impl Abort, alloc: Global, text: &str) {
     is_put(rt, &share.header(), payload, text);
 }
 
-#[test]
-fn each_number_of_elements(rt: HostRuntime) {
-    for text in STRINGS {
-        comes_again(&rt, rt.alloc(), text);
-    }
-}
-
-fn header(rt: &impl Abort) -> Header {
-    Header::parse("2", "name", "s").expect(rt, "a header")
-}
-
-const BYTES: [u8; 64] = [
-    0xdc, 0x54, 0x23, 0x25, 0x1c, 0xb8, 0x71, 0x75, 0xff, 0x81, 0x10, 0xc8, 0x53, 0x1d, 0x09, 0x52,
-    0xd8, 0xd7, 0x3e, 0x11, 0x94, 0xe9, 0x5b, 0x5f, 0x19, 0xd6, 0xf9, 0xdf, 0x7c, 0x01, 0x11, 0x11,
-    0x04, 0xc9, 0xba, 0xec, 0xdf, 0xea, 0x8c, 0xcc, 0xc6, 0x77, 0xfb, 0x9d, 0xdc, 0x8a, 0xec, 0x55,
-    0x53, 0xb8, 0x6e, 0x52, 0x8b, 0xca, 0xdf, 0xdc, 0xc2, 0x01, 0xc1, 0x7c, 0x63, 0x8c, 0x47, 0xe9,
-];
-
-// The string of this many bytes is that of the elements of its payload.
-#[test]
-fn strings_of_bytes(rt: HostRuntime) {
-    let header = header(&rt);
-    for &(count, elements) in COUNTS {
-        let bytes = BYTES.get(..count).expect(&rt, "bytes");
-        let text = encode(rt.alloc(), &header, bytes).expect(&rt, "refused");
-        let length = elements.checked_add(if count <= 44 { 22 } else { 24 });
-        same(&rt, &Some(text.len()), &length);
-        comes_again(&rt, rt.alloc(), &text);
-    }
-}
-
 // Fails where a string is made of some elements, or put, or not for another reason than this; what
 // is not put leaves the buffer as it was.
 fn refuses(
@@ -163,17 +103,17 @@ fn refuses(
 
 // Whether a string may have this many elements.
 fn is_taken(elements: usize) -> bool {
-    for counts in COUNTS {
-        if counts.1 == elements {
+    for count in COUNTS {
+        if *count == elements {
             return true;
         }
     }
     false
 }
 
-#[test]
-fn numbers_of_elements(rt: HostRuntime) {
-    let header = header(&rt);
+// Fails where a payload of another number of elements gives a string, or one of these gives none.
+fn are_of_these_numbers(rt: &impl Abort, alloc: Global) {
+    let header = Header::parse("2", "name", "s").expect(rt, "a header");
     let elements = [Fe32::L; 200];
     for count in 0..=elements.len() {
         let want = if is_taken(count) {
@@ -181,7 +121,15 @@ fn numbers_of_elements(rt: HostRuntime) {
         } else {
             Some(EncodeError::Size)
         };
-        let payload = elements.get(..count).expect(&rt, "elements");
-        refuses(&rt, rt.alloc(), &header, payload, want);
+        let payload = elements.get(..count).expect(rt, "elements");
+        refuses(rt, alloc, &header, payload, want);
     }
+}
+
+#[test]
+fn each_number_of_elements(rt: HostRuntime) {
+    for text in STRINGS {
+        comes_again(&rt, rt.alloc(), text);
+    }
+    are_of_these_numbers(&rt, rt.alloc());
 }

@@ -1,10 +1,10 @@
-//! Splits of secrets: a known one, whose shares were made by another program, into a buffer; shares
-//! recover the secret; and refusals. Others stand in the stored run of `c32`.
+//! Splits of secrets into a buffer: a known one, whose shares were made by another program and
+//! give the secret's own string; and refusals. Others stand in the stored run of `c32`.
 
 use crate::tests::compare::same;
 use crate::tests::shares::share;
 use bech32_gf::gf32::Fe32;
-use codex32::{Identifier, Share, SplitError, Threshold, derive_into, random_count, split_into};
+use codex32::{Identifier, SplitError, Threshold, derive_into, random_count, split_into};
 use std::process::Abort;
 
 // The shares of two of three, one behind another, and the secret.
@@ -15,16 +15,8 @@ const BYTES: [u8; 16] = [
     0xd1, 0x80, 0x8e, 0x09, 0x6b, 0x35, 0xb2, 0x09, 0xca, 0x12, 0x13, 0x2b, 0x26, 0x46, 0x62, 0xa5,
 ];
 
-// The secret's own string of three of five shares, and these.
-const OWN_OF_THREE: &str = "ms13cashsqqqsyqcyq5rqwzqfpg9scrgwpugqpka0zlzem56r7";
-
-const OF_THREE: [&str; 5] = [
-    "ms13cashats46lyfwncaz8v3kmq9205e7rgdjsr3djsvtycwrj",
-    "ms13cashchupxts46lyfwncaz8v3kmq9205e7tv2pxcwu8c9n3",
-    "ms13cashda45p28eepycj8xe70em750f0ngrdsqaar9mkykxm2",
-    "ms13cashengwvz8sterlssc86m9h2gnq63wqkrnqlktsydzdvl",
-    "ms13cashf9d0hhyqutl6qsj0j0uf7ngstpwwfrsv0878edv958",
-];
+// The secret's own string.
+const OWN: &str = "ms12names6xqguzttxkeqnjsjzv4jv3nz552f9cs6v8q9q98";
 
 // Bytes that rise by a step, modulo 256.
 fn rising_bytes(first: u8, step: u8) -> [u8; 72] {
@@ -49,6 +41,23 @@ fn split_by(
     split_into(buffer, threshold, identifier, secret, count, random)
 }
 
+// Fails where the first of three shares and the third do not put the secret's own string at the
+// front of a buffer, or where what stands behind it changes.
+fn do_recover(rt: &impl Abort, texts: &[u8]) {
+    let texts = str::from_utf8(texts).expect(rt, "texts");
+    let first = texts.get(..48).expect(rt, "a share");
+    let third = texts.get(96..144).expect(rt, "a share");
+    let shares = [share(rt, first), share(rt, third)];
+    let mut buffer = [7u8; 130];
+    let count = derive_into(&mut buffer, &shares, Fe32::S);
+    let behind = [7u8; 82];
+    same(
+        rt,
+        &(count, buffer.get(..48), buffer.get(48..)),
+        &(Ok(48), Some(OWN.as_bytes()), Some(behind.as_slice())),
+    );
+}
+
 // The shares stand at the front of a buffer, and what stands behind them is as it was.
 #[test]
 fn two_of_three(rt: HostRuntime) {
@@ -62,52 +71,14 @@ fn two_of_three(rt: HostRuntime) {
         &(split, buffer.get(..144), buffer.get(144..)),
         &(Ok(48), Some(OF_TWO.as_bytes()), Some(behind.as_slice())),
     );
-}
-
-// One of the shares.
-fn share_at(rt: &impl Abort, place: usize) -> Share<'static> {
-    let text: &'static str = OF_THREE.get(place).expect(rt, "a share");
-    share(rt, text)
-}
-
-// Fails where three of the shares do not give the secret's own string at `s`.
-fn do_recover(rt: &impl Abort, places: [usize; 3]) {
-    let [i, j, k] = places;
-    let shares = [share_at(rt, i), share_at(rt, j), share_at(rt, k)];
-    let mut buffer = [0u8; 127];
-    let count = derive_into(&mut buffer, &shares, Fe32::S).expect(rt, "refused");
-    same(
-        rt,
-        &(places, buffer.get(..count)),
-        &(places, Some(OWN_OF_THREE.as_bytes())),
-    );
-}
-
-// Each three of the shares.
-const THREES: &[[usize; 3]] = &[
-    [0, 1, 2],
-    [0, 1, 3],
-    [0, 1, 4],
-    [0, 2, 3],
-    [0, 2, 4],
-    [0, 3, 4],
-    [1, 2, 3],
-    [1, 2, 4],
-    [1, 3, 4],
-    [2, 3, 4],
-];
-
-#[test]
-fn any_three_of_five_recover(rt: HostRuntime) {
-    for places in THREES {
-        do_recover(&rt, *places);
-    }
+    do_recover(&rt, &buffer);
 }
 
 // The numbers of a secret's bytes, of shares, of random bytes, and of bytes in the buffer.
 type Numbers = (usize, usize, usize, usize);
 
-// Fails where a secret is split, or not for another reason than this.
+// Fails where a secret is split, or not for another reason than this, or where a refused split
+// changes the buffer.
 fn refuses(rt: &impl Abort, threshold: u8, numbers: Numbers, want: Option<SplitError>) {
     let (size, count, random, room) = numbers;
     let secret = rising_bytes(0, 1);
@@ -117,10 +88,11 @@ fn refuses(rt: &impl Abort, threshold: u8, numbers: Numbers, want: Option<SplitE
     let mut buffer = [0u8; 200];
     let room = buffer.get_mut(..room).expect(rt, "a buffer");
     let found = split_by(rt, room, threshold, secret, count, random).err();
+    let is_kept = buffer.as_slice() == [0u8; 200].as_slice();
     same(
         rt,
-        &(threshold, numbers, found),
-        &(threshold, numbers, want),
+        &(threshold, numbers, found, is_kept),
+        &(threshold, numbers, want, want.is_some()),
     );
 }
 
@@ -138,44 +110,12 @@ const REFUSALS: &[(u8, Numbers, Option<SplitError>)] = &[
     (2, (16, 3, 26, 144), None),
 ];
 
-#[test]
-fn refusals_of_splits(rt: HostRuntime) {
-    for &(threshold, numbers, want) in REFUSALS {
-        refuses(&rt, threshold, numbers, want);
-    }
-}
-
-// Fails where random bytes, all the same but for one, are refused for another reason than this.
-fn refuses_bytes(rt: &impl Abort, (each, place, other): (u8, usize, u8), want: Option<SplitError>) {
-    let mut random = [each; 26];
-    random[place.min(25)] = other;
+// Fails where random bytes that are all equal are not refused, or change the buffer.
+fn refuses_equal_bytes(rt: &impl Abort) {
     let mut buffer = [7u8; 144];
-    let found = split_by(rt, &mut buffer, 2, &BYTES, 3, &random).err();
+    let found = split_by(rt, &mut buffer, 2, &BYTES, 3, &[0x5a; 26]);
     let is_kept = buffer.as_slice() == [7u8; 144].as_slice();
-    same(
-        rt,
-        &(each, place, other, found, is_kept),
-        &(each, place, other, want, want.is_some()),
-    );
-}
-
-// Bytes that nobody filled are refused, whatever they are, and others are not: where the first or
-// the last differs, or only bits that no character is drawn from.
-const EQUAL: &[((u8, usize, u8), Option<SplitError>)] = &[
-    ((0, 0, 0), Some(SplitError::EqualRandom)),
-    ((0x5a, 0, 0x5a), Some(SplitError::EqualRandom)),
-    ((255, 0, 255), Some(SplitError::EqualRandom)),
-    ((0, 0, 1), None),
-    ((0, 25, 1), None),
-    ((0, 13, 128), None),
-    ((255, 0, 127), None),
-];
-
-#[test]
-fn random_bytes_that_are_all_equal(rt: HostRuntime) {
-    for &(bytes, want) in EQUAL {
-        refuses_bytes(&rt, bytes, want);
-    }
+    same(rt, &(found, is_kept), &(Err(SplitError::EqualRandom), true));
 }
 
 // How many random bytes a split takes of a threshold and a number of bytes.
@@ -190,11 +130,20 @@ const RANDOM: &[(u8, usize, Option<usize>)] = &[
     (2, usize::MAX, None),
 ];
 
-#[test]
-fn numbers_of_random_bytes(rt: HostRuntime) {
+// Fails where a split takes another number of random bytes.
+fn take_random_bytes(rt: &impl Abort) {
     for &(number, size, want) in RANDOM {
-        let threshold = Threshold::new(number).expect(&rt, "a threshold");
+        let threshold = Threshold::new(number).expect(rt, "a threshold");
         let found = random_count(threshold, size);
-        same(&rt, &(number, size, found), &(number, size, want));
+        same(rt, &(number, size, found), &(number, size, want));
+    }
+}
+
+#[test]
+fn refusals_of_splits(rt: HostRuntime) {
+    take_random_bytes(&rt);
+    refuses_equal_bytes(&rt);
+    for &(threshold, numbers, want) in REFUSALS {
+        refuses(&rt, threshold, numbers, want);
     }
 }

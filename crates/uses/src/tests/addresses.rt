@@ -3,6 +3,7 @@
 use crate::callers::in_lower_case;
 use crate::tests::compare::same;
 use bech32::{Fe32, hrp, segwit};
+use std::alloc::Global;
 use std::process::Abort;
 
 // A program of BIP-173 with its addresses in the main network and in the test network.
@@ -22,20 +23,18 @@ fn is_address(rt: &impl Abort, made: Result<String, segwit::EncodeError>, want: 
     same(rt, &made.expect(rt, "an address").as_str(), &want);
 }
 
-#[test]
-fn addresses_of_each_version(rt: HostRuntime) {
-    let taproot = segwit::encode_v1(rt.alloc(), hrp::BC, &[0xab; 20]);
-    is_address(&rt, taproot, TAPROOT);
-    let test = segwit::encode_v0(rt.alloc(), hrp::TB, &WITNESS_PROG);
-    is_address(&rt, test, TEST);
-    let main = segwit::encode(rt.alloc(), hrp::BC, segwit::VERSION_0, &WITNESS_PROG);
-    is_address(&rt, main, MAIN);
+fn addresses_of_each_version(rt: &impl Abort, alloc: Global) {
+    let taproot = segwit::encode_v1(alloc, hrp::BC, &[0xab; 20]);
+    is_address(rt, taproot, TAPROOT);
+    let test = segwit::encode_v0(alloc, hrp::TB, &WITNESS_PROG);
+    is_address(rt, test, TEST);
+    let main = segwit::encode(alloc, hrp::BC, segwit::VERSION_0, &WITNESS_PROG);
+    is_address(rt, main, MAIN);
 }
 
-#[test]
-fn an_address_in_lower_case(rt: HostRuntime) {
-    let again = in_lower_case(rt.alloc(), "BC1QW508D6QEJXTDG4Y5R3ZARVARY0C5XW7KV8F3T4");
-    same(&rt, &again.expect(&rt, "an address").as_str(), &MAIN);
+fn an_address_in_lower_case(rt: &impl Abort, alloc: Global) {
+    let again = in_lower_case(alloc, "BC1QW508D6QEJXTDG4Y5R3ZARVARY0C5XW7KV8F3T4");
+    same(rt, &again.expect(rt, "an address").as_str(), &MAIN);
 }
 
 // Addresses of the main network with a program of 32 bytes, each with its version.
@@ -50,14 +49,20 @@ const ADDRESSES: [(&str, Fe32); 2] = [
     ),
 ];
 
-#[test]
-fn parts_of_addresses(rt: HostRuntime) {
+fn parts_of_addresses(rt: &impl Abort, alloc: Global) {
     for &(address, version) in ADDRESSES.iter() {
-        let (hrp, witness_version, witness_program) = segwit::decode(rt.alloc(), address).expect(
-            &rt,
+        let (hrp, witness_version, witness_program) = segwit::decode(alloc, address).expect(
+            rt,
             "an address",
         );
         let found = (hrp, witness_version, witness_program.len());
-        same(&rt, &found, &(hrp::BC, version, 32));
+        same(rt, &found, &(hrp::BC, version, 32));
     }
+}
+
+#[test]
+fn segwit_addresses(rt: HostRuntime) {
+    addresses_of_each_version(&rt, rt.alloc());
+    an_address_in_lower_case(&rt, rt.alloc());
+    parts_of_addresses(&rt, rt.alloc());
 }

@@ -6,6 +6,7 @@ use bech32::primitives::segwit::WitnessLengthError;
 use bech32::{Correction, Fe32, Mended, correct};
 use liquid::{Blech32, DecodeError, EncodeError, KEY_LENGTH, decode, encode};
 use std::alloc::Global;
+use std::process::Abort;
 
 // An address, its blinding key, and its program.
 const ADDRESS: &str =
@@ -16,17 +17,16 @@ const PROGRAM: [u8; 20] = [
     0x21, 0x77, 0xa1, 0x75,
 ];
 
-#[test]
-fn an_address_both_ways(rt: HostRuntime) {
-    let address = decode(ADDRESS).expect(&rt, "an address");
+fn an_address_both_ways(rt: &impl Abort, alloc: Global) {
+    let address = decode(ADDRESS).expect(rt, "an address");
     let hrp = address.hrp();
     let found = (hrp.as_str(), address.witness_version(), address.program());
-    same(&rt, &found, &("lq", Fe32::Q, PROGRAM.as_slice()));
+    same(rt, &found, &("lq", Fe32::Q, PROGRAM.as_slice()));
     let mut key = [0u8; 33];
-    same(&rt, &address.blinding_key().len(), &KEY_LENGTH);
+    same(rt, &address.blinding_key().len(), &KEY_LENGTH);
     key.copy_from_slice(address.blinding_key());
-    let text = encode(rt.alloc(), hrp, Fe32::Q, &key, &PROGRAM).expect(&rt, "memory");
-    same(&rt, &text.as_str(), &ADDRESS);
+    let text = encode(alloc, hrp, Fe32::Q, &key, &PROGRAM).expect(rt, "memory");
+    same(rt, &text.as_str(), &ADDRESS);
 }
 
 // How Blech32 corrects a text.
@@ -37,12 +37,11 @@ fn corrected(alloc: Global, text: &str) -> Option<Mended> {
     }
 }
 
-#[test]
-fn an_address_mended(rt: HostRuntime) {
+fn an_address_mended(rt: &impl Abort, alloc: Global) {
     let mistyped =
         "lq1qqf8er278e6nyvuwtgf39e6ewvdcnjupn9a86rzpx655y5lhkt0wajuqdjf9cklkxd3ryld97hu8h3xepw7sh2rlu7q45dcewq";
-    let mended = corrected(rt.alloc(), mistyped).expect(&rt, "a correction");
-    same(&rt, &mended.text.as_str(), &ADDRESS);
+    let mended = corrected(alloc, mistyped).expect(rt, "a correction");
+    same(rt, &mended.text.as_str(), &ADDRESS);
 }
 
 // What is wrong with a text, and how it is told.
@@ -92,8 +91,14 @@ const NOT_ENCODED: [(EncodeError, &str); 4] = [
     (EncodeError::Memory, "out of memory"),
 ];
 
+fn what_is_wrong_with_an_address(rt: &impl Abort, alloc: Global) {
+    each_prints(rt, alloc, &NOT_DECODED);
+    each_prints(rt, alloc, &NOT_ENCODED);
+}
+
 #[test]
-fn what_is_wrong_with_an_address(rt: HostRuntime) {
-    each_prints(&rt, rt.alloc(), &NOT_DECODED);
-    each_prints(&rt, rt.alloc(), &NOT_ENCODED);
+fn confidential_addresses(rt: HostRuntime) {
+    an_address_both_ways(&rt, rt.alloc());
+    an_address_mended(&rt, rt.alloc());
+    what_is_wrong_with_an_address(&rt, rt.alloc());
 }

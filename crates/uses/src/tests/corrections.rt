@@ -50,23 +50,19 @@ fn lists(
     Ok(())
 }
 
-#[test]
-fn without_and_with_an_erasure(rt: HostRuntime) -> Result<(), Fail> {
-    let alloc = rt.alloc();
+fn without_and_with_an_erasure(rt: &impl Abort, alloc: Global) -> Result<(), Fail> {
     let mut corrector = corrector_of_text(alloc, "a12uel5q").ok_or("no residue")?;
-    lists(&rt, alloc, &corrector, &[(0, Fe32::L)])?;
+    lists(rt, alloc, &corrector, &[(0, Fe32::L)])?;
     corrector.add_erasures(&[3])?;
-    lists(&rt, alloc, &corrector, &[(3, Fe32::Q), (0, Fe32::L)])
+    lists(rt, alloc, &corrector, &[(3, Fe32::Q), (0, Fe32::L)])
 }
 
-#[test]
-fn corrects_an_address(rt: HostRuntime) -> Result<(), Fail> {
-    let alloc = rt.alloc();
+fn corrects_an_address(rt: &impl Abort, alloc: Global) -> Result<(), Fail> {
     let mistyped = "bc1qar0srrr7xfkvy5l64qlydnw9re59gtzzwf5mdx";
     let mut corrector = corrector_of_address(alloc, mistyped).ok_or("no residue")?;
-    same(&rt, &(corrector.window(), NO_ALLOC_MAX_LENGTH), &(1023, 7));
+    same(rt, &(corrector.window(), NO_ALLOC_MAX_LENGTH), &(1023, 7));
     corrector.add_erasures(&[0])?;
-    lists(&rt, alloc, &corrector, &[(0, Fe32::X), (20, Fe32::_3)])
+    lists(rt, alloc, &corrector, &[(0, Fe32::X), (20, Fe32::_3)])
 }
 
 // How Bech32 corrects a text.
@@ -77,14 +73,13 @@ fn corrected(alloc: Global, text: &str, erasures: &[usize]) -> Option<Mended> {
     }
 }
 
-#[test]
-fn corrects_by_one_call(rt: HostRuntime) {
+fn corrects_by_one_call(rt: &impl Abort, alloc: Global) {
     let mistyped = "BC1QAR0SRRR7XFKVY5L64QLYDNW9RE59GTZZWF5MDX";
-    let mended = corrected(rt.alloc(), mistyped, &[0]).expect(&rt, "a correction");
+    let mended = corrected(alloc, mistyped, &[0]).expect(rt, "a correction");
     let right = "bc1qar0srrr7xfkvy5l643lydnw9re59gtzzwf5mdq";
-    same(&rt, &mended.text.as_str(), &right);
+    same(rt, &mended.text.as_str(), &right);
     same_items(
-        &rt,
+        rt,
         mended.listing.as_slice(),
         &[(0, Fe32::X), (20, Fe32::_3)],
     );
@@ -98,9 +93,17 @@ fn is_only_near(alloc: Global, mistyped: &str, text: &str) -> bool {
     }
 }
 
-#[test]
-fn finds_two_wrong_characters(rt: HostRuntime) {
+fn finds_two_wrong_characters(rt: &impl Abort, alloc: Global) {
     let mistyped = "bc1qar0srrr7xfkvy5l64qlydnw9re59gtzzwf5mdx";
     let right = "bc1qar0srrr7xfkvy5l643lydnw9re59gtzzwf5mdq";
-    same(&rt, &is_only_near(rt.alloc(), mistyped, right), &true);
+    same(rt, &is_only_near(alloc, mistyped, right), &true);
+}
+
+#[test]
+fn corrections_of_texts(rt: HostRuntime) -> Result<(), Fail> {
+    without_and_with_an_erasure(&rt, rt.alloc())?;
+    corrects_an_address(&rt, rt.alloc())?;
+    corrects_by_one_call(&rt, rt.alloc());
+    finds_two_wrong_characters(&rt, rt.alloc());
+    Ok(())
 }

@@ -7,24 +7,22 @@ use bech32_descriptor::{
 use std::alloc::Global;
 use std::process::Abort;
 
-#[test]
-fn a_descriptor_and_its_checksum(rt: HostRuntime) {
-    same(&rt, &checksum(b"raw(deadbeef)"), &Ok(*b"89f8spxm"));
-    same(&rt, &check(b"raw(deadbeef)#89f8spxm"), &Ok(()));
+fn a_descriptor_and_its_checksum(rt: &impl Abort) {
+    same(rt, &checksum(b"raw(deadbeef)"), &Ok(*b"89f8spxm"));
+    same(rt, &check(b"raw(deadbeef)#89f8spxm"), &Ok(()));
     same(
-        &rt,
+        rt,
         &check(b"raw(deedbeef)#89f8spxm"),
         &Err(CheckError::WrongChecksum),
     );
 }
 
 // One descriptor, of which one character is changed.
-#[test]
-fn a_descriptor_mended(rt: HostRuntime) {
-    let found = mend(rt.alloc(), b"raw(deedbeef)#89f8spxm", 1).expect(&rt, "memory");
-    let first = found.first().expect(&rt, "a descriptor").edit;
+fn a_descriptor_mended(rt: &impl Abort, alloc: Global) {
+    let found = mend(alloc, b"raw(deedbeef)#89f8spxm", 1).expect(rt, "memory");
+    let first = found.first().expect(rt, "a descriptor").edit;
     same(
-        &rt,
+        rt,
         &(found.len(), first.place, first.change),
         &(1, 6, Change::Changed(b'a')),
     );
@@ -48,11 +46,10 @@ const TWO_CHANGED: &[(&[u8], Option<(usize, usize, usize)>)] = &[
     (b"raw(deadbeef)#89f8spxm", None),
 ];
 
-#[test]
-fn a_descriptor_with_two_changed(rt: HostRuntime) {
+fn a_descriptor_with_two_changed(rt: &impl Abort, alloc: Global) {
     for &(text, want) in TWO_CHANGED {
-        let found = mended_by_two(&rt, rt.alloc(), text);
-        same(&rt, &(text, found), &(text, want));
+        let found = mended_by_two(rt, alloc, text);
+        same(rt, &(text, found), &(text, want));
     }
 }
 
@@ -76,11 +73,17 @@ const NOT_MENDED: &[(MendError, &str)] = &[
     (MendError::Memory, "out of memory"),
 ];
 
-#[test]
-fn what_is_wrong_with_a_descriptor(rt: HostRuntime) {
-    let alloc = rt.alloc();
+fn what_is_wrong_with_a_descriptor(rt: &impl Abort, alloc: Global) {
     let message = "a character may not stand in a descriptor";
-    each_prints(&rt, alloc, &[(InvalidCharacter { place: 0 }, message)]);
-    each_prints(&rt, alloc, NO_DESCRIPTOR);
-    each_prints(&rt, alloc, NOT_MENDED);
+    each_prints(rt, alloc, &[(InvalidCharacter { place: 0 }, message)]);
+    each_prints(rt, alloc, NO_DESCRIPTOR);
+    each_prints(rt, alloc, NOT_MENDED);
+}
+
+#[test]
+fn output_descriptors(rt: HostRuntime) {
+    a_descriptor_and_its_checksum(&rt);
+    a_descriptor_mended(&rt, rt.alloc());
+    a_descriptor_with_two_changed(&rt, rt.alloc());
+    what_is_wrong_with_a_descriptor(&rt, rt.alloc());
 }

@@ -19,41 +19,35 @@ fn abc(rt: &impl Abort) -> Hrp {
     Hrp::parse("abc").expect(rt, "part")
 }
 
-#[test]
-fn encoding(rt: HostRuntime) {
-    let string = encode::<Bech32m>(rt.alloc(), abc(&rt), &DATA);
-    same(&rt, &string.expect(&rt, "text").as_str(), &STRING);
-    let mut buf = String::new(rt.alloc());
-    let outcome = encode_to_fmt::<Bech32m, String>(&mut buf, abc(&rt), &DATA);
-    same(&rt, &(outcome, buf.as_str()), &(Ok(()), STRING));
+fn encoding(rt: &impl Abort, alloc: Global) {
+    let string = encode::<Bech32m>(alloc, abc(rt), &DATA);
+    same(rt, &string.expect(rt, "text").as_str(), &STRING);
+    let mut buf = String::new(alloc);
+    let outcome = encode_to_fmt::<Bech32m, String>(&mut buf, abc(rt), &DATA);
+    same(rt, &(outcome, buf.as_str()), &(Ok(()), STRING));
 }
 
-#[test]
-fn decoding(rt: HostRuntime) {
-    let p = CheckedHrpstring::new::<Bech32m>(STRING).expect(&rt, "text");
-    let of_reader: Vec<u8> = p.byte_iter().collect(rt.alloc()).expect(&rt, "memory");
-    same_items(&rt, of_reader.as_slice(), DATA.as_slice());
-    let (hrp, data) = decode(rt.alloc(), STRING).expect(&rt, "text");
-    same_items(&rt, &[hrp, p.hrp()], &[abc(&rt); 2]);
-    same_items(&rt, data.as_slice(), DATA.as_slice());
+fn decoding(rt: &impl Abort, alloc: Global) {
+    let p = CheckedHrpstring::new::<Bech32m>(STRING).expect(rt, "text");
+    let of_reader: Vec<u8> = p.byte_iter().collect(alloc).expect(rt, "memory");
+    same_items(rt, of_reader.as_slice(), DATA.as_slice());
+    let (hrp, data) = decode(alloc, STRING).expect(rt, "text");
+    same_items(rt, &[hrp, p.hrp()], &[abc(rt); 2]);
+    same_items(rt, data.as_slice(), DATA.as_slice());
 }
 
-#[test]
-fn encoding_and_decoding_addresses(rt: HostRuntime) {
-    let taproot_address = segwit::encode(rt.alloc(), hrp::BC, segwit::VERSION_1, &DATA);
+fn encoding_and_decoding_addresses(rt: &impl Abort, alloc: Global) {
+    let taproot_address = segwit::encode(alloc, hrp::BC, segwit::VERSION_1, &DATA);
     same(
-        &rt,
-        &taproot_address.expect(&rt, "address").as_str(),
+        rt,
+        &taproot_address.expect(rt, "address").as_str(),
         &TAP_ADDR,
     );
-    let (_hrp, _version, program) = segwit::decode(rt.alloc(), TAP_ADDR).expect(&rt, "address");
-    same_items(&rt, program.as_slice(), DATA.as_slice());
-    let taproot = SegwitHrpstring::new(TAP_ADDR).expect(&rt, "address");
-    let of_address: Vec<u8> = taproot
-        .byte_iter()
-        .collect(rt.alloc())
-        .expect(&rt, "memory");
-    same_items(&rt, of_address.as_slice(), DATA.as_slice());
+    let (_hrp, _version, program) = segwit::decode(alloc, TAP_ADDR).expect(rt, "address");
+    same_items(rt, program.as_slice(), DATA.as_slice());
+    let taproot = SegwitHrpstring::new(TAP_ADDR).expect(rt, "address");
+    let of_address: Vec<u8> = taproot.byte_iter().collect(alloc).expect(rt, "memory");
+    same_items(rt, of_address.as_slice(), DATA.as_slice());
 }
 
 // Whether a checksum accepts a text.
@@ -100,9 +94,16 @@ const TEXTS: &[(&str, [bool; 6])] = &[
     ),
 ];
 
-#[test]
-fn what_accepts_each_text(rt: HostRuntime) {
+fn what_accepts_each_text(rt: &impl Abort, alloc: Global) {
     for &(text, want) in TEXTS {
-        same(&rt, &(text, accepted(rt.alloc(), text)), &(text, want));
+        same(rt, &(text, accepted(alloc, text)), &(text, want));
     }
+}
+
+#[test]
+fn texts_and_addresses(rt: HostRuntime) {
+    encoding(&rt, rt.alloc());
+    decoding(&rt, rt.alloc());
+    encoding_and_decoding_addresses(&rt, rt.alloc());
+    what_accepts_each_text(&rt, rt.alloc());
 }

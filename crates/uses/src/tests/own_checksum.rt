@@ -34,14 +34,18 @@ fn comes_again<Ck: Checksum>(rt: &impl Abort, alloc: Global, text: &str) {
     same_text(rt, alloc, &again, text);
 }
 
-#[test]
-fn addresses_of_liquid(rt: HostRuntime) {
-    comes_again::<Blech32>(&rt, rt.alloc(), ADDRESS);
+fn addresses_of_liquid(rt: &impl Abort, alloc: Global) {
+    comes_again::<Blech32>(rt, alloc, ADDRESS);
+}
+
+fn long_codex32_strings(rt: &impl Abort) {
+    same(rt, &LongCodex32::sanity_check(), &true);
+    let checked = CheckedHrpstring::new::<LongCodex32>(LONG).expect(rt, "a long string");
+    same(rt, &checked.hrp().as_str(), &"ms");
 }
 
 #[test]
-fn long_codex32_strings(rt: HostRuntime) {
-    same(&rt, &LongCodex32::sanity_check(), &true);
-    let checked = CheckedHrpstring::new::<LongCodex32>(LONG).expect(&rt, "a long string");
-    same(&rt, &checked.hrp().as_str(), &"ms");
+fn checksums_of_ones_own(rt: HostRuntime) {
+    addresses_of_liquid(&rt, rt.alloc());
+    long_codex32_strings(&rt);
 }

@@ -3,30 +3,35 @@
 use crate::tests::compare::{same, same_items};
 use bech32::primitives::hrp::{BC, Error, Hrp};
 use std::alloc::{AllocError, Global};
+use std::process::Abort;
 
 // The characters of a part, in lower case.
 fn lowered(alloc: Global, hrp: &Hrp) -> Result<Vec<char>, AllocError> {
     hrp.lowercase_char_iter().collect(alloc)
 }
 
-#[test]
-fn human_readable_parts(rt: HostRuntime) {
-    let upper = Hrp::parse("BC").expect(&rt, "a human-readable part");
+fn human_readable_parts(rt: &impl Abort, alloc: Global) {
+    let upper = Hrp::parse("BC").expect(rt, "a human-readable part");
     // Two that differ in case alone are equal; each keeps its own.
-    same(&rt, &(upper, upper.as_str()), &(BC, "BC"));
-    let lower = lowered(rt.alloc(), &upper).expect(&rt, "memory");
-    same_items(&rt, &lower, &['b', 'c']);
+    same(rt, &(upper, upper.as_str()), &(BC, "BC"));
+    let lower = lowered(alloc, &upper).expect(rt, "memory");
+    same_items(rt, &lower, &['b', 'c']);
     let networks = [upper.is_valid_on_mainnet(), upper.is_valid_on_testnet()];
-    same(&rt, &networks, &[true, false]);
+    same(rt, &networks, &[true, false]);
 }
 
-#[test]
-fn refused_parts(rt: HostRuntime) {
+fn refused_parts(rt: &impl Abort) {
     let refusals = ["", "a b", "aB"].map(|text| Hrp::parse(text).err());
     let want = [
         Some(Error::Empty),
         Some(Error::InvalidAsciiByte(0x20)),
         Some(Error::MixedCase),
     ];
-    same(&rt, &refusals, &want);
+    same(rt, &refusals, &want);
+}
+
+#[test]
+fn parts_of_texts(rt: HostRuntime) {
+    human_readable_parts(&rt, rt.alloc());
+    refused_parts(&rt);
 }
