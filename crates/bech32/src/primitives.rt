@@ -17,8 +17,8 @@ pub use bech32_poly::lfsr::LfsrIter;
 pub mod checksum {
     pub use bech32_block::{NamedField, PrintError, PrintImpl};
     pub use bech32_checksum::{
-        Bech32, Bech32m, Checksum, Engine, HrpFe32Iter, LocatorField, NoChecksum, PackedFe32,
-        PackedNull,
+        Bech32, Bech32m, Checksum, Engine, HrpFe32Iter, LocatorField, Lookup, NoChecksum,
+        PackedFe32, PackedNull,
     };
     pub use bech32_detect::{
         accepted_texts_are_far, bursts_are_detected, detects_four, four_errors_are_detected,

@@ -17,6 +17,7 @@ ghost use Rattle.bech32_calls.specs.Correct.{IsCorrectFault, IsMending, PutsMend
 
 use crate::checksum::{BECH32, BECH32M};
 use crate::refusal::Refusal;
+use bech32::primitives::checksum::Lookup;
 use bech32::{Bech32, Bech32m, Fe32};
 use bech32_correction::{CorrectsInPlace, lookup_listing, mend, search_listing};
 use bech32_decode::Reading;
@@ -149,9 +150,9 @@ fn corrected_by<Ck: CorrectsInPlace>(
         return put_correction(&[], text, locations, values, mended);
     }
     match lookup_listing(&reading, erasures) {
-        Some(Some(found)) => put_correction(found.as_slice(), text, locations, values, mended),
-        Some(None) => Err(Refusal::NoCorrection),
-        None => corrected_by_search(&reading, text, erasures, locations, values, mended),
+        Lookup::Found(found) => put_correction(found.as_slice(), text, locations, values, mended),
+        Lookup::Absent => Err(Refusal::NoCorrection),
+        Lookup::NoTable => corrected_by_search(&reading, text, erasures, locations, values, mended),
     }
 }
 

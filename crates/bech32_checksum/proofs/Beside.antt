@@ -1,6 +1,6 @@
 -- One error beside an element at a known location: what the syndromes say of it, and the element.
 use Rattle.std.proofs.Common.{◌≡◌, ◌<◌, ◌+◌, ◌-◌, ◌*◌, ◌%◌, get_or, ℕ, List, [], ◌∷◌, length, refl, sym, ap, ◌∙◌, arith, bit_xor, ⊎_elim}
-use Rattle.std.specs.Prelude.{◌≢◌, ◌≤◌, Option, Some, None, MatchOption, ⊤}
+use Rattle.std.specs.Prelude.{◌≢◌, ◌≤◌}
 use Rattle.std.proofs.lemmas.Bool.{cases_lt}
 use Rattle.std.proofs.lemmas.Nat.{xor_lt}
 use Rattle.bech32_gf.specs.Fe32 as fe32
@@ -25,10 +25,13 @@ use Rattle.bech32_poly.proofs.Lists.{length-scale, same_cons}
 use Rattle.bech32_poly.proofs.PatternSums.{residue_syndrome}
 use Rattle.bech32_poly.proofs.Remainder.{remainder_of-itself, remainder_of-same, remainder_unique}
 use Rattle.bech32_checksum.specs.Code.{bech32}
+use Rattle.bech32_checksum.specs.Lookup.{MatchLookup}
 use Rattle.bech32_checksum.specs.OneError.{IsLeftBy, packed}
 use Rattle.bech32_checksum.specs.Packed.{digits}
 use Rattle.bech32_checksum.specs.Syndromes.{error_sum, pair_at, sum_beside, syndrome}
 use Rattle.bech32_checksum.specs.declared.checksums.logarithms.TheConstants.{LOGARITHMS, POWERS}
+use Rattle.bech32_checksum.specs.declared.lookups.Lookup.{Lookup}
+use Rattle.bech32_checksum.specs.declared.lookups.Lookup.TheVariants.{NoTable, Absent, Found}
 use Rattle.bech32_checksum.specs.laws.RootLaws.{base, bech32_roots}
 use Rattle.bech32_checksum.proofs.Erased.{back, digits-multiple, digits-packed_six, digits-xor, two_leave}
 use Rattle.bech32_checksum.proofs.NoValues.{both_leave, six}
@@ -192,12 +195,12 @@ element_found l n m i error v size is hi hj em e =
     ∙ ap (polynomial.add fe32.ops (scale fe32.ops v (digits 6 (row i)))) (digits-multiple m (row error.0) error.1 em))
 
 -- what is said of the residue without the error, said of the residue
-pub element_said : (l : List Fe32) (n m i : ℕ) (error : ℕ × Fe32) (said : Option (Option Fe32)) → length l ≡ 6 → n ≡ packed l → i < 1023 → error.0 < 1023
+pub element_said : (l : List Fe32) (n m i : ℕ) (error : ℕ × Fe32) (said : Lookup Fe32) → length l ≡ 6 → n ≡ packed l → i < 1023 → error.0 < 1023
     → m ≡ packed (scale fe32.ops error.1 (digits 6 (row error.0)))
-    → MatchOption said ⊤ (λ found. MatchOption found ((v : Fe32) → digits 6 (bit_xor n m) ≡ scale fe32.ops v (digits 6 (row i)) → ⊥)
-    (λ value. digits 6 (bit_xor n m) ≡ scale fe32.ops value (digits 6 (row i))))
-    → MatchOption said ⊤ (λ found. MatchOption found ((v : Fe32) → IsLeftBy bech32.generator l ((i, v) ∷ error ∷ []) → ⊥)
-    (λ v. IsLeftBy bech32.generator l ((i, v) ∷ error ∷ [])))
-element_said l n m i error None size is hi hj em h = tt
-element_said l n m i error (Some None) size is hi hj em h = λ v left. h v (element_left l n m i error v size is hi hj em left)
-element_said l n m i error (Some (Some v)) size is hi hj em h = element_found l n m i error v size is hi hj em h
+    → MatchLookup said ((v : Fe32) → digits 6 (bit_xor n m) ≡ scale fe32.ops v (digits 6 (row i)) → ⊥)
+    (λ value. digits 6 (bit_xor n m) ≡ scale fe32.ops value (digits 6 (row i)))
+    → MatchLookup said ((v : Fe32) → IsLeftBy bech32.generator l ((i, v) ∷ error ∷ []) → ⊥)
+    (λ v. IsLeftBy bech32.generator l ((i, v) ∷ error ∷ []))
+element_said l n m i error NoTable size is hi hj em h = tt
+element_said l n m i error Absent size is hi hj em h = λ v left. h v (element_left l n m i error v size is hi hj em left)
+element_said l n m i error (Found v) size is hi hj em h = element_found l n m i error v size is hi hj em h

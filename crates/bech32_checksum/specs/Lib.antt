@@ -1,6 +1,7 @@
 pub mod Code
 pub mod Encoded
 pub mod HrpFes
+pub mod Lookup
 pub mod OneError
 pub mod Packed
 pub mod PackingLaws

@@ -1,12 +1,13 @@
 -- Errors that leave a residue, and the single one among them.
 use Rattle.std.specs.Prelude.{◌≡◌, ◌≢◌, ◌<◌, ◌==◌, ◌+◌, ◌*◌, cond, ℕ, List, [], ◌∷◌}
-use Rattle.std.specs.Prelude.{Option, Some, None}
 use Rattle.bech32_gf.specs.Fe32.{inv, ops, zero}
 use Rattle.bech32_gf.specs.declared.gf32.Fe32.{Fe32}
 use Rattle.bech32_poly.specs.Pattern.{pattern_polynomial}
 use Rattle.bech32_poly.specs.Polynomial.{IsSamePolynomial, scale}
 use Rattle.bech32_poly.specs.Remainder.{IsRemainder}
+use Rattle.bech32_checksum.specs.Lookup.{MatchLookup}
 use Rattle.bech32_checksum.specs.Packed.{digit_of}
+use Rattle.bech32_checksum.specs.declared.lookups.Lookup.{Lookup}
 
 -- the polynomial of these errors has the residue as remainder, by the generator with these lower
 -- coefficients
@@ -31,27 +32,26 @@ pub record IsOnlyError (generator : List Fe32) (code_length : ℕ) (residue : Li
   pub only : (i : ℕ) (v : Fe32) → i < code_length → IsLeftBy generator residue ((i, v) ∷ [])
       → i ≡ error.0
 
--- the only single error below the code length that leaves the residue, or None where there is none
-abbrev pub IsSingle : List Fe32 → ℕ → List Fe32 → Option (ℕ × Fe32) → Type 0
-IsSingle generator code_length residue None =
-    (i : ℕ) (v : Fe32) → i < code_length → IsLeftBy generator residue ((i, v) ∷ []) → ⊥
-IsSingle generator code_length residue (Some error) =
-    IsOnlyError generator code_length residue error
+-- the only single error below the code length that leaves the residue, or Absent if none does
+abbrev pub IsSingle : List Fe32 → ℕ → List Fe32 → Lookup (ℕ × Fe32) → Type 0
+IsSingle generator code_length residue result = MatchLookup result
+    ((i : ℕ) (v : Fe32) → i < code_length → IsLeftBy generator residue ((i, v) ∷ []) → ⊥)
+    (IsOnlyError generator code_length residue)
 
--- elements at a location and at one below a window that together leave the residue, or None where
+-- elements at a location and at one below a window that together leave the residue, or Absent if
 -- none do
-abbrev pub IsBeside : List Fe32 → ℕ → List Fe32 → ℕ → Option (Fe32 × (ℕ × Fe32)) → Type 0
-IsBeside generator window residue location None = (v : Fe32) (i : ℕ) (w : Fe32) → i < window
-    → IsLeftBy generator residue ((location, v) ∷ (i, w) ∷ []) → ⊥
-IsBeside generator window residue location (Some found) = (found.1.0 < window)
-    × IsLeftBy generator residue ((location, found.0) ∷ found.1 ∷ [])
+abbrev pub IsBeside : List Fe32 → ℕ → List Fe32 → ℕ → Lookup (Fe32 × (ℕ × Fe32)) → Type 0
+IsBeside generator window residue location result = MatchLookup result
+    ((v : Fe32) (i : ℕ) (w : Fe32) → i < window
+    → IsLeftBy generator residue ((location, v) ∷ (i, w) ∷ []) → ⊥)
+    (λ found. (found.1.0 < window)
+    × IsLeftBy generator residue ((location, found.0) ∷ found.1 ∷ []))
 
--- elements at the locations that together leave the residue, or None where none do
-abbrev pub AreOnlyValues : List Fe32 → List Fe32 → List ℕ → Option (List Fe32) → Type 0
-AreOnlyValues generator residue locations None =
-    (values : List Fe32) → IsLeftBy generator residue (valued locations values) → ⊥
-AreOnlyValues generator residue locations (Some values) =
-    IsLeftBy generator residue (valued locations values)
+-- elements at the locations that together leave the residue, or Absent if none do
+abbrev pub AreOnlyValues : List Fe32 → List Fe32 → List ℕ → Lookup (List Fe32) → Type 0
+AreOnlyValues generator residue locations result = MatchLookup result
+    ((values : List Fe32) → IsLeftBy generator residue (valued locations values) → ⊥)
+    (λ values. IsLeftBy generator residue (valued locations values))
 
 -- a place of six at which a number has a digit that is not zero, as the number of the bits below
 -- it, and the inverse of the digit

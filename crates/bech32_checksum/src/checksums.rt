@@ -23,14 +23,14 @@ mod syndromes;
 mod twos;
 mod words;
 
-use self::beside::{Beside, one_beside_by_rows};
+use self::beside::one_beside_by_rows;
 use self::eights::after_eight_by_tables;
 use self::erased::values_by_rows;
 use self::ones::one_error_by_tables;
 use self::products::product_with;
 use self::words::{after_row_by_tables, after_two_by_table, after_word_by_tables};
 use crate::packed::PackedNull;
-use crate::{Checksum, CorrectingChecksum};
+use crate::{Checksum, CorrectingChecksum, Lookup};
 use bech32_gf::gf32::Fe32;
 use bech32_gf_ext::{Fe32Ext, Fe1024};
 
@@ -167,17 +167,21 @@ impl Checksum for Bech32 {
     }
 
     #[inline]
-    fn one_error(residue: &[Fe32]) -> Option<Option<(usize, Fe32)>> {
+    fn one_error(residue: &[Fe32]) -> Lookup<(usize, Fe32)> {
         one_error_by_tables(residue)
     }
 
     #[inline]
-    fn lookup_values(residue: &[Fe32], locations: &[usize]) -> Option<Option<[Fe32; 3]>> {
+    fn lookup_values(residue: &[Fe32], locations: &[usize]) -> Lookup<[Fe32; 3]> {
         values_by_rows(residue, locations)
     }
 
     #[inline]
-    fn lookup_error_beside(residue: &[Fe32], location: usize, window: usize) -> Beside {
+    fn lookup_error_beside(
+        residue: &[Fe32],
+        location: usize,
+        window: usize,
+    ) -> Lookup<(Fe32, (usize, Fe32))> {
         one_beside_by_rows(residue, location, window)
     }
 
@@ -263,17 +267,21 @@ impl Checksum for Bech32m {
     }
 
     #[inline]
-    fn one_error(residue: &[Fe32]) -> Option<Option<(usize, Fe32)>> {
+    fn one_error(residue: &[Fe32]) -> Lookup<(usize, Fe32)> {
         Bech32::one_error(residue)
     }
 
     #[inline]
-    fn lookup_values(residue: &[Fe32], locations: &[usize]) -> Option<Option<[Fe32; 3]>> {
+    fn lookup_values(residue: &[Fe32], locations: &[usize]) -> Lookup<[Fe32; 3]> {
         Bech32::lookup_values(residue, locations)
     }
 
     #[inline]
-    fn lookup_error_beside(residue: &[Fe32], location: usize, window: usize) -> Beside {
+    fn lookup_error_beside(
+        residue: &[Fe32],
+        location: usize,
+        window: usize,
+    ) -> Lookup<(Fe32, (usize, Fe32))> {
         Bech32::lookup_error_beside(residue, location, window)
     }
 

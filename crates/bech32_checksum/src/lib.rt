@@ -19,6 +19,7 @@ ghost use Rattle.bech32_checksum.specs.laws.WordLaws.{code_length_of, degree_of}
 
 mod checksums;
 mod hrp_fes;
+mod lookups;
 mod packed;
 mod roots;
 mod tables;
@@ -26,6 +27,7 @@ mod word;
 
 pub use self::checksums::{Bech32, Bech32m, NoChecksum};
 pub use self::hrp_fes::HrpFe32Iter;
+pub use self::lookups::Lookup;
 pub use self::packed::{PackedFe32, PackedNull};
 pub use self::roots::LocatorField;
 use self::word::elements_in;
@@ -194,57 +196,51 @@ pub trait Checksum {
         next
     }
 
-    /// The only single error below the code length that leaves a residue, if any, where the
-    /// checksum has a way of its own to find it; the outer `None` says nothing.
+    /// The only single error below the code length that leaves a residue.
     ///
-    /// The provided one says nothing, and correctors then search. Whoever defines a checksum may
-    /// read tables.
+    /// The provided one has no table. Whoever defines a checksum may read tables.
     #[inline]
-    fn one_error(_residue: &[Fe32]) -> Option<Option<(usize, Fe32)>>
-        ensures { MatchOption result ⊤
-            (λ found. IsSingle code.generator CODE_LENGTH _residue.now found) }
+    fn one_error(_residue: &[Fe32]) -> Lookup<(usize, Fe32)>
+        ensures { IsSingle code.generator CODE_LENGTH _residue.now result }
     {
-        None
+        Lookup::NoTable
     }
 
-    /// The elements at up to three locations that together leave a residue, if any, where the
-    /// checksum has a way of its own to find them; the outer `None` says nothing.
+    /// The elements at up to three locations that together leave a residue.
     ///
-    /// The provided one says nothing, and correctors then search. Whoever defines a checksum may
-    /// read tables.
+    /// The provided one has no table. Whoever defines a checksum may read tables.
     #[inline]
-    fn lookup_values(_residue: &[Fe32], _locations: &[usize]) -> Option<Option<[Fe32; 3]>>
-        ensures { MatchOption result ⊤
-            (λ found. AreOnlyValues code.generator _residue.now _locations.now found) }
+    fn lookup_values(_residue: &[Fe32], _locations: &[usize]) -> Lookup<[Fe32; 3]>
+        ensures { AreOnlyValues code.generator _residue.now _locations.now result }
     {
-        None
+        Lookup::NoTable
     }
 
-    /// The elements at up to three locations that together leave a residue, where
-    /// [`Self::lookup_values`] finds them; `None` says nothing.
+    /// The elements at up to three locations that together leave a residue, if
+    /// [`Self::lookup_values`] finds them.
     #[inline]
     fn values_at(residue: &[Fe32], locations: &[usize]) -> Option<[Fe32; 3]>
         ensures { MatchOption result ⊤
             (λ values. IsLeftBy code.generator residue.now (valued locations.now values)) }
     {
-        Self::lookup_values(residue, locations)?
+        match Self::lookup_values(residue, locations) {
+            Lookup::Found(values) => Some(values),
+            Lookup::Absent | Lookup::NoTable => None,
+        }
     }
 
-    /// The element at a location and the single error below a window that together leave a residue,
-    /// if any, where the checksum has a way of its own to find them; the outer `None` says nothing.
+    /// The element at a location and the single error below a window that together leave a residue.
     ///
-    /// The provided one says nothing, and correctors then search. Whoever defines a checksum may
-    /// read tables.
+    /// The provided one has no table. Whoever defines a checksum may read tables.
     #[inline]
     fn lookup_error_beside(
         _residue: &[Fe32],
         _location: usize,
         _window: usize,
-    ) -> Option<Option<(Fe32, (usize, Fe32))>>
-        ensures { MatchOption result ⊤
-            (λ found. IsBeside code.generator _window _residue.now _location found) }
+    ) -> Lookup<(Fe32, (usize, Fe32))>
+        ensures { IsBeside code.generator _window _residue.now _location result }
     {
-        None
+        Lookup::NoTable
     }
 
     /// Whether the roots are lawful: the base is not zero, its order is the code length or more,

@@ -1,6 +1,5 @@
 -- What follows of a text from what its checksum and the corrector answer.
 use Rattle.std.proofs.Common.{◌≡◌, ℕ, ◌<◌, ◌≤◌, List, [], ◌∷◌, map, length, Option, None, Some, MatchOption, MatchResult, Result, Ok, Err, subst, sym, ap, ◌∙◌, refl, arith}
-use Rattle.std.specs.Prelude.{⊤}
 use Rattle.std.specs.List.{AllByRecursion}
 use Rattle.std.proofs.Math.Decide.{dec_lt}
 use Rattle.std.proofs.lemmas.List.{length-append}
@@ -13,7 +12,10 @@ use Rattle.bech32_poly.proofs.Lists.{coefficient-add}
 use Rattle.bech32_hrp.specs.Hrp.{lowered}
 use Rattle.bech32_checksum.specs.Code.{Code}
 use Rattle.bech32_checksum.specs.Encoded.{char_of_element}
+use Rattle.bech32_checksum.specs.Lookup.{IfLookedUp, MatchLookup}
 use Rattle.bech32_checksum.specs.TextPolynomial.{text_polynomial}
+use Rattle.bech32_checksum.specs.declared.lookups.Lookup.{Lookup}
+use Rattle.bech32_checksum.specs.declared.lookups.Lookup.TheVariants.{NoTable, Absent, Found}
 use Rattle.bech32_bch.specs.Erasures.{AreErasures, with_erasures}
 use Rattle.bech32_lookup.specs.Carried.{of_checksum}
 use Rattle.bech32_lookup.specs.Question.{Explains, IsAnswerTo, IsOnlyListing, Question, listing_of_one}
@@ -101,29 +103,29 @@ listing-from_only code bound text given hrp data_part residue listing is inside 
 }
 
 -- what an error that is looked up says of the text, where there are no erasures
-pub error_answered : (code : Code) (bound : ℕ) (text hrp data_part : List ℕ) (residue : List Fe32) (found : Option (Option (ℕ × Fe32)))
+pub error_answered : (code : Code) (bound : ℕ) (text hrp data_part : List ℕ) (residue : List Fe32) (found : Lookup (ℕ × Fe32))
     → IsRefusedFor code text hrp data_part residue
-    → MatchOption found ⊤ (λ one. IsAnswerTo code bound (question_of data_part residue []) (listing_of_one one))
-    → MatchOption found ⊤ (λ one. MatchOption one (HasNoListing code bound text []) (λ error. IsListingOf code bound text [] (error ∷ [])))
-error_answered code bound text hrp data_part residue None is h = h
-error_answered code bound text hrp data_part residue (Some None) is none = record { hrp = hrp; data_part = data_part; residue = residue; refused = is; none = λ inside. none }
-error_answered code bound text hrp data_part residue (Some (Some error)) is only = listing-from_only code bound text [] hrp data_part residue (error ∷ []) is tt only
+    → IfLookedUp found (λ one. IsAnswerTo code bound (question_of data_part residue []) (listing_of_one one))
+    → MatchLookup found (HasNoListing code bound text []) (λ error. IsListingOf code bound text [] (error ∷ []))
+error_answered code bound text hrp data_part residue NoTable is h = h
+error_answered code bound text hrp data_part residue Absent is none = record { hrp = hrp; data_part = data_part; residue = residue; refused = is; none = λ inside. none }
+error_answered code bound text hrp data_part residue (Found error) is only = listing-from_only code bound text [] hrp data_part residue (error ∷ []) is tt only
 
 -- and one that is looked up where there are some
-pub erased_answered : (code : Code) (bound : ℕ) (text given hrp data_part : List ℕ) (residue : List Fe32) (found : Option (Option (List (ℕ × Fe32))))
+pub erased_answered : (code : Code) (bound : ℕ) (text given hrp data_part : List ℕ) (residue : List Fe32) (found : Lookup (List (ℕ × Fe32)))
     → IsRefusedFor code text hrp data_part residue
-    → MatchOption found ⊤ (λ one. AreErasures (length data_part) given
+    → IfLookedUp found (λ one. AreErasures (length data_part) given
     × IsAnswerTo code bound (record { residue = residue; window = length data_part; erasures = given }) one)
-    → MatchOption found ⊤ (λ one. MatchOption one (HasNoListing code bound text given) (λ listing. IsListingOf code bound text given listing))
-erased_answered code bound text given hrp data_part residue None is h = h
-erased_answered code bound text given hrp data_part residue (Some None) is (erased, none) = record {
+    → MatchLookup found (HasNoListing code bound text given) (λ listing. IsListingOf code bound text given listing)
+erased_answered code bound text given hrp data_part residue NoTable is h = h
+erased_answered code bound text given hrp data_part residue Absent is (erased, none) = record {
   hrp = hrp;
   data_part = data_part;
   residue = residue;
   refused = is;
   none = λ inside. subst (λ (s : List ℕ). IsAnswerTo code bound (record { residue = residue; window = length data_part; erasures = s }) None) (sym (erasures_are given erased.once)) none;
 }
-erased_answered code bound text given hrp data_part residue (Some (Some listing)) is (erased, only) =
+erased_answered code bound text given hrp data_part residue (Found listing) is (erased, only) =
     listing-from_only code bound text given hrp data_part residue listing is erased.below
     (subst (λ (s : List ℕ). IsOnlyListing code bound (record { residue = residue; window = length data_part; erasures = s }) listing) (sym (erasures_are given erased.once)) only)
 

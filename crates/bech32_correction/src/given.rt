@@ -1,9 +1,10 @@
 //! By which finder the listing is found that explains an error residue, and this listing where
 //! locations are given as erasures.
 
-ghost use Rattle.std.specs.Prelude.{◌≡◌, ◌≤◌, ◌<◌, ◌+◌, ℕ, List, length, IfOk, IfSome, IsOk};
+ghost use Rattle.std.specs.Prelude.{◌≡◌, ◌≤◌, ◌<◌, ◌+◌, ℕ, List, length, IfOk, IsOk};
 ghost use Rattle.bech32_bch.specs.Erasures.{AreErasures};
 ghost use Rattle.bech32_bch.specs.Search.{locators};
+ghost use Rattle.bech32_checksum.specs.Lookup.{IfLookedUp};
 ghost use Rattle.bech32_lookup.specs.Question.{IsAnswerTo};
 ghost use Rattle.bech32_poly.specs.FieldVec.{FitsInPlace};
 ghost use Rattle.bech32_correction.specs.Given.{IsAnswerWith};
@@ -11,7 +12,7 @@ ghost use Rattle.bech32_correction.specs.Given.{IsAnswerWith};
 use crate::corrector::Corrector;
 use crate::erasures::distinct_below;
 use bech32_bch::{ShortVec, locators_of};
-use bech32_checksum::Checksum;
+use bech32_checksum::{Checksum, Lookup};
 use bech32_gf::gf32::Fe32;
 use bech32_lookup::{
     bound, correct_by_roots, correct_erased, correct_single, is_filled, lookup_erasures,
@@ -20,29 +21,28 @@ use bech32_poly::fieldvec::FieldVec;
 use std::alloc::{AllocError, Allocator};
 use std::marker::PhantomData;
 
-// What is explained at one to three erasures, where the checksum looks it up; the outer `None` says
-// nothing.
+// What the checksum looks up for one to three erasures.
 #[inline(always)]
 fn looked_up<Ck: Checksum, A: Allocator + Copy>(
     alloc: A,
     window: usize,
     residue: &[Fe32],
     erasures: &[usize],
-) -> Result<Option<Option<ShortVec<(usize, Fe32), A>>>, AllocError>
+) -> Result<Lookup<ShortVec<(usize, Fe32), A>>, AllocError>
     requires lawful { Ck.lawful × (0 < length Ck.code.generator) }
     requires within { window ≤ Ck.CODE_LENGTH }
     requires bound { Ck.bound ≡ 3 }
-    ensures answer { IfOk result (λ found. IfSome found (λ answer. IsAnswerTo Ck.code Ck.bound
+    ensures answer { IfOk result (λ found. IfLookedUp found (λ answer. IsAnswerTo Ck.code Ck.bound
         (record { residue = residue.now; window = window; erasures = erasures.now }) answer)) }
     ensures in_place { IsOk result }
 {
     match lookup_erasures::<Ck>(window, residue, erasures) {
-        Some(Some(listing)) => {
+        Lookup::Found(listing) => {
             let copy = ShortVec::from_slice(alloc, listing.as_slice())?;
-            Ok(Some(Some(copy)))
+            Ok(Lookup::Found(copy))
         }
-        Some(None) => Ok(Some(None)),
-        None => Ok(None),
+        Lookup::Absent => Ok(Lookup::Absent),
+        Lookup::NoTable => Ok(Lookup::NoTable),
     }
 }
 
@@ -75,8 +75,10 @@ pub(crate) fn listing_below<Ck: Checksum, A: Allocator + Copy>(
         return correct_single::<Ck, A>(alloc, window, residue);
     }
     if most == 3 {
-        if let Some(answer) = looked_up::<Ck, A>(alloc, window, residue, erasures.as_slice())? {
-            return Ok(answer);
+        match looked_up::<Ck, A>(alloc, window, residue, erasures.as_slice())? {
+            Lookup::Found(listing) => return Ok(Some(listing)),
+            Lookup::Absent => return Ok(None),
+            Lookup::NoTable => {}
         }
     }
     if erased > most {

@@ -1,11 +1,12 @@
 //! What a checksum says of a mistyped text, without memory: for checksums of at most six
 //! characters.
 
-ghost use Rattle.std.specs.Prelude.{◌≡◌, ◌≤◌, ◌<◌, ◌∷◌, [], length, Ok, IsOk, MatchOption, MatchResult, refl, ⊤};
+ghost use Rattle.std.specs.Prelude.{◌≡◌, ◌≤◌, ◌<◌, ◌∷◌, [], length, Ok, IsOk, MatchOption, MatchResult, refl};
 ghost use Rattle.std.proofs.Common.{arith};
 ghost use Rattle.bech32_gf.specs.Fe32.{elements_of, ops};
 ghost use Rattle.bech32_poly.specs.Remainder.{IsRemainder};
 ghost use Rattle.bech32_checksum.specs.Code.{bech32, bech32m};
+ghost use Rattle.bech32_checksum.specs.Lookup.{MatchLookup};
 ghost use Rattle.bech32_checksum.specs.TextPolynomial.{text_polynomial};
 ghost use Rattle.bech32_decode.specs.Refusals.{HasLengths};
 ghost use Rattle.bech32_correction.specs.Given.{IsAnswerWith};
@@ -15,7 +16,7 @@ ghost use Rattle.bech32_correction.specs.declared.correcting.Correction.TheVaria
 use crate::correcting::{Correction, Listing};
 use crate::given::listing_given;
 use crate::no_memory::NoMemory;
-use bech32_checksum::{Bech32, Bech32m, CorrectingChecksum};
+use bech32_checksum::{Bech32, Bech32m, CorrectingChecksum, Lookup};
 use bech32_decode::Reading;
 use bech32_gf::gf32::Fe32;
 use bech32_lookup::{ShortListing, lookup_erasures, lookup_single_error};
@@ -86,38 +87,37 @@ impl CorrectsInPlace for Bech32m {
 }
 
 // The error that mends a text that was read, and that the checksum refuses for its residue, where
-// there are no erasures, if the checksum looks it up; the outer `None` says nothing.
+// there are no erasures.
 #[inline(always)]
-fn error_of_read<Ck: CorrectsInPlace>(reading: &Reading<'_, Ck>) -> Option<Option<(usize, Fe32)>>
+fn error_of_read<Ck: CorrectsInPlace>(reading: &Reading<'_, Ck>) -> Lookup<(usize, Fe32)>
     requires lengths { HasLengths Ck.code
         (length reading.now.text.now) (length reading.now.data_part.now) }
     requires refused { IsRemainder ops Ck.code.generator
         (text_polynomial reading.now.hrp.now (elements_of reading.now.data_part.now))
         Ck.code.target → ⊥ }
-    ensures { MatchOption result ⊤ (λ found. MatchOption found
+    ensures { MatchLookup result
         (HasNoListing Ck.code Ck.bound reading.now.text.now [])
-        (λ error. IsListingOf Ck.code Ck.bound reading.now.text.now [] (error ∷ []))) }
+        (λ error. IsListingOf Ck.code Ck.bound reading.now.text.now [] (error ∷ [])) }
 {
     let residue = reading.error_residue();
     lookup_single_error::<Ck>(reading.data_part.len(), &residue[..Ck::CHECKSUM_LENGTH])
 }
 
 // The listing at one to three erasures, and an error beside a single one, that mends a text that
-// was read, and that the checksum refuses for its residue, if the checksum looks it up; the outer
-// `None` says nothing.
+// was read, and that the checksum refuses for its residue.
 #[inline(always)]
 fn erased_of_read<Ck: CorrectsInPlace>(
     reading: &Reading<'_, Ck>,
     erasures: &[usize],
-) -> Option<Option<ShortListing>>
+) -> Lookup<ShortListing>
     requires lengths { HasLengths Ck.code
         (length reading.now.text.now) (length reading.now.data_part.now) }
     requires refused { IsRemainder ops Ck.code.generator
         (text_polynomial reading.now.hrp.now (elements_of reading.now.data_part.now))
         Ck.code.target → ⊥ }
-    ensures { MatchOption result ⊤ (λ found. MatchOption found
+    ensures { MatchLookup result
         (HasNoListing Ck.code Ck.bound reading.now.text.now erasures.now)
-        (λ listing. IsListingOf Ck.code Ck.bound reading.now.text.now erasures.now listing)) }
+        (λ listing. IsListingOf Ck.code Ck.bound reading.now.text.now erasures.now listing) }
 {
     let residue = reading.error_residue();
     lookup_erasures::<Ck>(
@@ -128,26 +128,26 @@ fn erased_of_read<Ck: CorrectsInPlace>(
 }
 
 /// The listing that mends a text that was read, and that the checksum refuses for its residue,
-/// where the given locations are erasures, if the checksum looks it up; the outer `None` says
-/// nothing.
+/// where the given locations are erasures. [`Lookup::NoTable`] if the checksum has no table.
 #[inline(always)]
 pub fn lookup_listing<Ck: CorrectsInPlace>(
     reading: &Reading<'_, Ck>,
     erasures: &[usize],
-) -> Option<Option<ShortListing>>
+) -> Lookup<ShortListing>
     requires lengths { HasLengths Ck.code
         (length reading.now.text.now) (length reading.now.data_part.now) }
     requires refused { IsRemainder ops Ck.code.generator
         (text_polynomial reading.now.hrp.now (elements_of reading.now.data_part.now))
         Ck.code.target → ⊥ }
-    ensures { MatchOption result ⊤ (λ found. MatchOption found
+    ensures { MatchLookup result
         (HasNoListing Ck.code Ck.bound reading.now.text.now erasures.now)
-        (λ listing. IsListingOf Ck.code Ck.bound reading.now.text.now erasures.now listing)) }
+        (λ listing. IsListingOf Ck.code Ck.bound reading.now.text.now erasures.now listing) }
 {
     if erasures.is_empty() {
-        return match error_of_read(reading)? {
-            Some(error) => Some(Some(ShortListing::of_one(error))),
-            None => Some(None),
+        return match error_of_read(reading) {
+            Lookup::Found(error) => Lookup::Found(ShortListing::of_one(error)),
+            Lookup::Absent => Lookup::Absent,
+            Lookup::NoTable => Lookup::NoTable,
         };
     }
     erased_of_read(reading, erasures)
@@ -184,7 +184,7 @@ pub fn search_listing<Ck: CorrectsInPlace>(
     Ck::listing_of_residue(&residue[..Ck::CHECKSUM_LENGTH], window, erasures)
 }
 
-// The same listing: looked up, where the checksum has it, else by a search.
+// The same listing: looked up if the checksum has a table, otherwise by a search.
 #[inline(always)]
 fn listing_of_read<Ck: CorrectsInPlace>(
     reading: &Reading<'_, Ck>,
@@ -200,9 +200,9 @@ fn listing_of_read<Ck: CorrectsInPlace>(
         (λ listing. IsListingOf Ck.code Ck.bound reading.now.text.now erasures.now listing) }
 {
     match lookup_listing(reading, erasures) {
-        Some(Some(found)) => Some(listed(&found)),
-        Some(None) => None,
-        None => search_listing(reading, erasures),
+        Lookup::Found(found) => Some(listed(&found)),
+        Lookup::Absent => None,
+        Lookup::NoTable => search_listing(reading, erasures),
     }
 }
 

@@ -1,5 +1,5 @@
 -- Patterns of one error, and the row of the location's power of x.
-use Rattle.std.specs.Prelude.{◌≢◌, ◌==◌, Bool, true, false, not, Option, None}
+use Rattle.std.specs.Prelude.{◌≢◌, ◌==◌, Bool, true, false, not}
 use Rattle.std.proofs.Common.{◌≡◌, ◌↔◌, ◌<◌, ◌≤◌, ◌*◌, ◌^◌, ◌-◌, ℕ, zero, suc, List, [], ◌∷◌, length, sym, ap, subst, ◌∙◌, refl, arith}
 use Rattle.bech32_gf.specs.Field.{Ops, IsField}
 use Rattle.bech32_gf.specs.Fe32 as fe32
@@ -14,6 +14,8 @@ use Rattle.bech32_poly.proofs.Lists.{coefficient-scale, coefficient-zeros, same_
 use Rattle.bech32_poly.proofs.Remainder.{remainder_exists, remainder_of-scale, remainder_unique}
 use Rattle.bech32_checksum.specs.OneError.{IsOnlyError, IsSingle}
 use Rattle.bech32_checksum.specs.Packed.{digit_of, digits}
+use Rattle.bech32_checksum.specs.declared.lookups.Lookup.{Lookup}
+use Rattle.bech32_checksum.specs.declared.lookups.Lookup.TheVariants.{Absent}
 use Rattle.bech32_checksum.proofs.DigitRows.{coefficient-digits}
 use Rattle.bech32_bch.specs.Pattern.{HasRemainder, Solves}
 use Rattle.bech32_lookup.specs.Multiple.{IsMultiple, screen}
@@ -82,7 +84,7 @@ no_pattern g residue window bound few some none (p ∷ []) h = none p.0 p.1 h.pa
 no_pattern g residue window bound few some none (p ∷ q ∷ e) h = omega (arith, few, h.few)
 
 -- the only single error below a limit tells of those below a window
-pub none_below : (g residue : List Fe32) (limit window : ℕ) (found : Option (ℕ × Fe32)) → window ≤ limit → IsSingle g limit residue found → found ≡ None
+pub none_below : (g residue : List Fe32) (limit window : ℕ) (found : Lookup (ℕ × Fe32)) → window ≤ limit → IsSingle g limit residue found → found ≡ Absent
     → (i : ℕ) (v : Fe32) → i < window → HasRemainder fe32.ops g residue ((i, v) ∷ []) → ⊥
 none_below g residue limit window found within only is i v below = (subst (IsSingle g limit residue) is only) i v (omega (arith, below, within))
 

@@ -1,5 +1,5 @@
 -- A residue without the zeros behind its first coefficients.
-use Rattle.std.specs.Prelude.{◌&&◌, ◌==◌, ◌↔◌, Option, Some, None, true, false, Bool}
+use Rattle.std.specs.Prelude.{◌&&◌, ◌==◌, ◌↔◌, true, false, Bool}
 use Rattle.std.proofs.Common.{◌≡◌, ◌<◌, ◌≤◌, ◌+◌, ℕ, List, [], ◌∷◌, subst, sym, ◌∙◌, refl, arith}
 use Rattle.std.proofs.Math.Decide.{dec_lt}
 use Rattle.bech32_gf.specs.Fe32.{ops, zero}
@@ -7,6 +7,8 @@ use Rattle.bech32_gf.specs.declared.gf32.Fe32.{Fe32}
 use Rattle.bech32_gf.specs.laws.Fe32Laws.{eq_is_equal}
 use Rattle.bech32_poly.specs.Polynomial.{IsSamePolynomial, coefficient}
 use Rattle.bech32_checksum.specs.OneError.{IsLeftBy, IsSingle}
+use Rattle.bech32_checksum.specs.declared.lookups.Lookup.{Lookup}
+use Rattle.bech32_checksum.specs.declared.lookups.Lookup.TheVariants.{NoTable, Absent, Found}
 
 both : (a b : Bool) → ((a && b) ≡ true) ↔ ((a ≡ true) × (b ≡ true))
 both true b = (λ h. (refl, h), λ h. h.1)
@@ -33,9 +35,10 @@ zero_more p end place before here past is so_far = (
 pub left_of : (g p q : List Fe32) (errors : List (ℕ × Fe32)) → IsSamePolynomial ops p q → IsLeftBy g p errors → IsLeftBy g q errors
 left_of g p q errors same left = (left.0, left.1, λ n. left.2 n ∙ same n)
 
-pub single_of : (g p q : List Fe32) (limit : ℕ) (found : Option (ℕ × Fe32)) → IsSamePolynomial ops p q → IsSingle g limit p found → IsSingle g limit q found
-single_of g p q limit None same h = λ i v below left. h i v below (left_of g q p ((i, v) ∷ []) (λ n. sym (same n)) left)
-single_of g p q limit (Some error) same h = record {
+pub single_of : (g p q : List Fe32) (limit : ℕ) (found : Lookup (ℕ × Fe32)) → IsSamePolynomial ops p q → IsSingle g limit p found → IsSingle g limit q found
+single_of g p q limit NoTable same h = tt
+single_of g p q limit Absent same h = λ i v below left. h i v below (left_of g q p ((i, v) ∷ []) (λ n. sym (same n)) left)
+single_of g p q limit (Found error) same h = record {
   below = h.below;
   not_zero = h.not_zero;
   leaves = left_of g p q (error ∷ []) same h.leaves;

@@ -247,8 +247,7 @@ fn behind_first(found: &[Fe32; 3]) -> [Fe32; MAX_ROWS]
     values
 }
 
-// The values at up to three erasures, behind a first one, where the checksum has a way of its own
-// to find them; `None` says nothing.
+// The values at up to three erasures, behind a first one, if the checksum's table has them.
 #[inline]
 fn looked_up_values<Ck: Checksum>(residue: &[Fe32], erasures: &[usize]) -> Option<[Fe32; MAX_ROWS]>
     ensures { MatchOption result ⊤
@@ -275,7 +274,7 @@ fn eliminated_values<Ck: Checksum>(residue: &[Fe32], erasures: &[usize]) -> Opti
     values_of(&mut rows, erasures.len(), size)
 }
 
-// The same, by the checksum's own way where it has one, else by elimination.
+// The values by the checksum's table if it has them, otherwise by elimination.
 #[inline]
 fn erased_values<Ck: Checksum>(residue: &[Fe32], erasures: &[usize]) -> Option<[Fe32; MAX_ROWS]>
     requires { length erasures.now ≤ length Ck.code.generator }

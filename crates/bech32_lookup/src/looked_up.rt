@@ -3,6 +3,7 @@
 ghost use Rattle.std.specs.Prelude.{◌≡◌, ◌≢◌, ◌≤◌, ◌<◌, ◌∷◌, [], ℕ, List, Some, length, take, MatchOption, ⊤};
 ghost use Rattle.bech32_bch.specs.Erasures.{AreErasures};
 ghost use Rattle.bech32_bch.specs.Pattern.{HasRemainder};
+ghost use Rattle.bech32_checksum.specs.Lookup.{IfLookedUp, MatchLookup};
 ghost use Rattle.bech32_lookup.specs.Found.{IsErasedListing};
 ghost use Rattle.bech32_lookup.specs.Question.{IsAnswerTo, listing_of_one};
 ghost use Rattle.bech32_gf.specs.Fe32 as fe32;
@@ -11,7 +12,7 @@ ghost use Rattle.bech32_poly.specs.Polynomial.{IsSamePolynomial};
 
 use crate::division::trimmed;
 use crate::single::looked_up_error;
-use bech32_checksum::Checksum;
+use bech32_checksum::{Checksum, Lookup};
 use bech32_gf::gf32::Fe32;
 use std::marker::Model;
 
@@ -52,82 +53,77 @@ impl ShortListing {
     }
 }
 
-/// The error below the window, if any, that explains an error residue which is not zero, where
-/// there are no erasures and the bound is that of one error, if the checksum has a way of its own
-/// to find it; the outer `None` says nothing.
+/// The error below the window that explains an error residue which is not zero, where there are no
+/// erasures and the bound is that of one error. [`Lookup::NoTable`] if the checksum has no table.
 #[inline(always)]
-pub fn lookup_single_error<Ck: Checksum>(
-    window: usize,
-    residue: &[Fe32],
-) -> Option<Option<(usize, Fe32)>>
+pub fn lookup_single_error<Ck: Checksum>(window: usize, residue: &[Fe32]) -> Lookup<(usize, Fe32)>
     requires lawful { Ck.lawful × (0 < length Ck.code.generator) }
     requires within { window ≤ Ck.CODE_LENGTH }
     requires bound { Ck.bound ≡ 3 }
     requires not_zero { ¬ IsSamePolynomial fe32.ops residue.now [] }
-    ensures { MatchOption result ⊤ (λ found. IsAnswerTo Ck.code Ck.bound
+    ensures { IfLookedUp result (λ found. IsAnswerTo Ck.code Ck.bound
         (record { residue = residue.now; window = window; erasures = [] })
         (listing_of_one found)) }
 {
-    let Some(error) = looked_up_error::<Ck>(residue)? else {
-        return Some(None);
+    let error = match looked_up_error::<Ck>(residue) {
+        Lookup::Found(error) => error,
+        Lookup::Absent => return Lookup::Absent,
+        Lookup::NoTable => return Lookup::NoTable,
     };
     if error.0 < window {
-        Some(Some(error))
+        Lookup::Found(error)
     } else {
-        Some(None)
+        Lookup::Absent
     }
 }
 
-// The elements at two erasures, if any, that have the error residue as remainder; the outer `None`
-// says nothing.
+// The elements at two erasures that have the error residue as remainder.
 #[inline(always)]
-fn two_below<Ck: Checksum>(
-    window: usize,
-    residue: &[Fe32],
-    given: &[usize],
-) -> Option<Option<ShortListing>>
+fn two_below<Ck: Checksum>(window: usize, residue: &[Fe32], given: &[usize]) -> Lookup<ShortListing>
     requires { length given.now ≡ 2 }
-    ensures { MatchOption result ⊤ (λ found. AreErasures window given.now
+    ensures { IfLookedUp result (λ found. AreErasures window given.now
         × IsErasedListing Ck.code.generator residue.now given.now found) }
 {
     let (one, two) = (given[0], given[1]);
     if one >= window || two >= window || one == two {
-        return None;
+        return Lookup::NoTable;
     }
-    let Some(values) = Ck::lookup_values(residue, given)? else {
-        return Some(None);
-    };
-    Some(Some(ShortListing {
-        items: [(one, values[0]), (two, values[1]), (0, Fe32::Q)],
-        count: 2,
-    }))
+    match Ck::lookup_values(residue, given) {
+        Lookup::Found(values) => Lookup::Found(ShortListing {
+            items: [(one, values[0]), (two, values[1]), (0, Fe32::Q)],
+            count: 2,
+        }),
+        Lookup::Absent => Lookup::Absent,
+        Lookup::NoTable => Lookup::NoTable,
+    }
 }
 
-// The same at three erasures.
+// The elements at three erasures that have the error residue as remainder.
 #[inline(always)]
 fn three_below<Ck: Checksum>(
     window: usize,
     residue: &[Fe32],
     given: &[usize],
-) -> Option<Option<ShortListing>>
+) -> Lookup<ShortListing>
     requires { length given.now ≡ 3 }
-    ensures { MatchOption result ⊤ (λ found. AreErasures window given.now
+    ensures { IfLookedUp result (λ found. AreErasures window given.now
         × IsErasedListing Ck.code.generator residue.now given.now found) }
 {
     let (one, two, three) = (given[0], given[1], given[2]);
     if one >= window || two >= window || three >= window {
-        return None;
+        return Lookup::NoTable;
     }
     if one == two || one == three || two == three {
-        return None;
+        return Lookup::NoTable;
     }
-    let Some(values) = Ck::lookup_values(residue, given)? else {
-        return Some(None);
-    };
-    Some(Some(ShortListing {
-        items: [(one, values[0]), (two, values[1]), (three, values[2])],
-        count: 3,
-    }))
+    match Ck::lookup_values(residue, given) {
+        Lookup::Found(values) => Lookup::Found(ShortListing {
+            items: [(one, values[0]), (two, values[1]), (three, values[2])],
+            count: 3,
+        }),
+        Lookup::Absent => Lookup::Absent,
+        Lookup::NoTable => Lookup::NoTable,
+    }
 }
 
 // The element at an erasure that alone has the error residue as remainder, if it is looked up.
@@ -141,75 +137,77 @@ fn alone_at<Ck: Checksum>(residue: &[Fe32], erasure: usize) -> Option<Fe32>
 }
 
 // The element at an erasure and the error below the window that have the error residue as
-// remainder, if they are looked up; the outer `None` says nothing.
+// remainder. There is no table for an error at the erasure or of zero.
 #[inline(always)]
 fn error_beside<Ck: Checksum>(
     window: usize,
     residue: &[Fe32],
     erasure: usize,
-) -> Option<Option<(Fe32, (usize, Fe32))>>
-    ensures { MatchOption result ⊤ (λ found. MatchOption found
+) -> Lookup<(Fe32, (usize, Fe32))>
+    ensures { MatchLookup result
         ((v : Element) (i : ℕ) (w : Element) → i < window
         → HasRemainder fe32.ops Ck.code.generator residue.now ((erasure, v) ∷ (i, w) ∷ []) → ⊥)
         (λ p. (p.1.0 < window) × ((p.1.0 ≢ erasure) × ((p.1.1 ≢ fe32.zero)
-        × HasRemainder fe32.ops Ck.code.generator residue.now ((erasure, p.0) ∷ p.1 ∷ []))))) }
+        × HasRemainder fe32.ops Ck.code.generator residue.now ((erasure, p.0) ∷ p.1 ∷ [])))) }
 {
-    let Some(found) = Ck::lookup_error_beside(residue, erasure, window)? else {
-        return Some(None);
+    let found = match Ck::lookup_error_beside(residue, erasure, window) {
+        Lookup::Found(found) => found,
+        Lookup::Absent => return Lookup::Absent,
+        Lookup::NoTable => return Lookup::NoTable,
     };
     let (location, value) = found.1;
     if location == erasure || value == Fe32::Q {
-        return None;
+        return Lookup::NoTable;
     }
-    Some(Some(found))
+    Lookup::Found(found)
 }
 
 /// The element at one erasure, and the error beside it, if any, that explain an error residue,
-/// where the bound is three, if the checksum has a way of its own to find them; the outer `None`
-/// says nothing.
+/// where the bound is three. [`Lookup::NoTable`] if the checksum has no table.
 #[inline(always)]
 pub fn lookup_error_beside_erasure<Ck: Checksum>(
     window: usize,
     residue: &[Fe32],
     erasure: usize,
-) -> Option<Option<ShortListing>>
+) -> Lookup<ShortListing>
     requires lawful { Ck.lawful × (0 < length Ck.code.generator) }
     requires within { window ≤ Ck.CODE_LENGTH }
     requires bound { Ck.bound ≡ 3 }
-    ensures { MatchOption result ⊤ (λ found. AreErasures window (erasure ∷ [])
+    ensures { IfLookedUp result (λ found. AreErasures window (erasure ∷ [])
         × IsAnswerTo Ck.code Ck.bound
         (record { residue = residue.now; window = window; erasures = erasure ∷ [] }) found) }
 {
     if erasure >= window {
-        return None;
+        return Lookup::NoTable;
     }
-    let list = trimmed(residue, Ck::CHECKSUM_LENGTH)?;
-    let Some(beside) = error_beside::<Ck>(window, list, erasure) else {
-        let value = alone_at::<Ck>(list, erasure)?;
-        return Some(Some(ShortListing::of_one((erasure, value))));
+    let Some(list) = trimmed(residue, Ck::CHECKSUM_LENGTH) else {
+        return Lookup::NoTable;
     };
-    let Some((value, error)) = beside else {
-        return Some(None);
-    };
-    Some(Some(ShortListing {
-        items: [(erasure, value), error, (0, Fe32::Q)],
-        count: 2,
-    }))
+    match error_beside::<Ck>(window, list, erasure) {
+        Lookup::Found((value, error)) => Lookup::Found(ShortListing {
+            items: [(erasure, value), error, (0, Fe32::Q)],
+            count: 2,
+        }),
+        Lookup::Absent => Lookup::Absent,
+        Lookup::NoTable => match alone_at::<Ck>(list, erasure) {
+            Some(value) => Lookup::Found(ShortListing::of_one((erasure, value))),
+            None => Lookup::NoTable,
+        },
+    }
 }
 
 /// The elements at one to three erasures, and the error beside a single one, if any, that explain
-/// an error residue, where the bound is three, if the checksum has a way of its own to find them;
-/// the outer `None` says nothing.
+/// an error residue, where the bound is three. [`Lookup::NoTable`] if the checksum has no table.
 #[inline(always)]
 pub fn lookup_erasures<Ck: Checksum>(
     window: usize,
     residue: &[Fe32],
     given: &[usize],
-) -> Option<Option<ShortListing>>
+) -> Lookup<ShortListing>
     requires lawful { Ck.lawful × (0 < length Ck.code.generator) }
     requires within { window ≤ Ck.CODE_LENGTH }
     requires bound { Ck.bound ≡ 3 }
-    ensures { MatchOption result ⊤ (λ found. AreErasures window given.now
+    ensures { IfLookedUp result (λ found. AreErasures window given.now
         × IsAnswerTo Ck.code Ck.bound
         (record { residue = residue.now; window = window; erasures = given.now }) found) }
 {
@@ -217,6 +215,6 @@ pub fn lookup_erasures<Ck: Checksum>(
         1 => lookup_error_beside_erasure::<Ck>(window, residue, given[0]),
         2 => two_below::<Ck>(window, residue, given),
         3 => three_below::<Ck>(window, residue, given),
-        _ => None,
+        _ => Lookup::NoTable,
     }
 }

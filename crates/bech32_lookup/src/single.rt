@@ -13,7 +13,7 @@ ghost use Rattle.bech32_poly.specs.Polynomial.{coefficient};
 
 use crate::division::{listed_coefficient, packed_coefficient, trimmed};
 use bech32_bch::ShortVec;
-use bech32_checksum::{Checksum, Engine, PackedFe32};
+use bech32_checksum::{Checksum, Engine, Lookup, PackedFe32};
 use bech32_gf::gf32::Fe32;
 use std::alloc::{AllocError, Allocator};
 
@@ -109,19 +109,19 @@ fn single_error<Ck: Checksum>(
     None
 }
 
-// The only single error below the code length that leaves the error residue, if any, where the
-// checksum has a way of its own to find it; the outer `None` says nothing.
+// The only single error below the code length that leaves the error residue.
 #[inline]
-pub(crate) fn looked_up_error<Ck: Checksum>(residue: &[Fe32]) -> Option<Option<(usize, Fe32)>>
-    ensures { MatchOption result ⊤
-        (λ found. IsSingle Ck.code.generator Ck.CODE_LENGTH residue.now found) }
+pub(crate) fn looked_up_error<Ck: Checksum>(residue: &[Fe32]) -> Lookup<(usize, Fe32)>
+    ensures { IsSingle Ck.code.generator Ck.CODE_LENGTH residue.now result }
 {
-    let list = trimmed(residue, Ck::CHECKSUM_LENGTH)?;
-    Ck::one_error(list)
+    match trimmed(residue, Ck::CHECKSUM_LENGTH) {
+        Some(list) => Ck::one_error(list),
+        None => Lookup::NoTable,
+    }
 }
 
 // The location below the window at which some value has the error residue as remainder, and the
-// value: by the checksum's own way where it has one, else by a search. The error residue is not
+// value: by the checksum's table if it has one, otherwise by a search. The error residue is not
 // zero at the pivot.
 #[inline(always)]
 fn error_below<Ck: Checksum>(residue: &[Fe32], window: usize, pivot: usize) -> Option<(usize, Fe32)>
@@ -130,11 +130,10 @@ fn error_below<Ck: Checksum>(residue: &[Fe32], window: usize, pivot: usize) -> O
     requires pivot { coefficient fe32.ops residue.now pivot ≢ fe32.zero }
     ensures { IsErrorBelow Ck.code.generator window residue.now result }
 {
-    let Some(single) = looked_up_error::<Ck>(residue) else {
-        return single_error::<Ck>(residue, window, pivot);
-    };
-    let Some(error) = single else {
-        return None;
+    let error = match looked_up_error::<Ck>(residue) {
+        Lookup::Found(error) => error,
+        Lookup::Absent => return None,
+        Lookup::NoTable => return single_error::<Ck>(residue, window, pivot),
     };
     if error.0 < window { Some(error) } else { None }
 }

@@ -2,12 +2,13 @@
 //! three roots in the field of 1,024 elements, and the values of the residue there, its syndromes,
 //! tell where alone the error may stand.
 
-ghost use Rattle.std.specs.Prelude.{◌≡◌, ◌<◌, ◌≤◌, ◌+◌, ◌%◌, ◌∷◌, ℕ, [], length, MatchOption, ⊤};
+ghost use Rattle.std.specs.Prelude.{◌≡◌, ◌<◌, ◌≤◌, ◌+◌, ◌%◌, ◌∷◌, ℕ, [], length};
 ghost use Rattle.bech32_gf.specs.Fe32.{value};
 ghost use Rattle.bech32_gf.specs.Field.{power};
 ghost use Rattle.bech32_gf.specs.declared.gf32.Fe32.{Fe32 as Element};
 ghost use Rattle.bech32_gf_ext.specs.Fe1024 as fe1024;
 ghost use Rattle.bech32_checksum.specs.Code.{bech32};
+ghost use Rattle.bech32_checksum.specs.Lookup.{MatchLookup};
 ghost use Rattle.bech32_checksum.specs.OneError.{IsBeside, IsLeftBy};
 ghost use Rattle.bech32_checksum.specs.Syndromes.{error_sum, pair_at, sum_beside, syndrome};
 ghost use Rattle.bech32_checksum.specs.laws.RootLaws.{base};
@@ -16,11 +17,8 @@ use super::erased::{multiple_of, packed_list, value_at_one};
 use super::logarithms::{LOGARITHMS, POWERS};
 use super::powers::POWERS_OF_X;
 use super::syndromes::SYNDROMES;
+use crate::Lookup;
 use bech32_gf::gf32::Fe32;
-
-// The element at a location, and the location and the element of the error beside it, if any; the
-// outer `None` says nothing.
-pub(super) type Beside = Option<Option<(Fe32, (usize, Fe32))>>;
 
 // What an element at a place of a residue adds to the syndromes.
 #[inline]
@@ -103,69 +101,78 @@ fn value_beside(lower: u32, location: usize, other: usize) -> u32
     POWERS[(above + 24 * (1023 - other)) % 1023] as u32
 }
 
-// The error below a window that alone may stand beside an element at a location, if any; says
-// nothing where the element alone may leave the residue.
+// The error below a window that alone may stand beside an element at a location. There is no table
+// for a residue that the element alone may leave.
 #[inline]
-fn error_beside(residue: &[Fe32], location: usize, window: usize) -> Option<Option<(usize, Fe32)>>
+fn error_beside(residue: &[Fe32], location: usize, window: usize) -> Lookup<(usize, Fe32)>
     requires six { length residue.now ≡ 6 }
     requires small { location < 1023 }
     requires within { window ≤ 1023 }
-    ensures { MatchOption result ⊤ (λ found. ((v : Element) (i : ℕ) (w : Element) → i < window
+    ensures { MatchLookup result
+        ((v : Element) (i : ℕ) (w : Element) → i < window
+        → IsLeftBy bech32.generator residue.now ((location, v) ∷ (i, w) ∷ []) → ⊥)
+        (λ error. ((v : Element) (i : ℕ) (w : Element) → i < window
         → IsLeftBy bech32.generator residue.now ((location, v) ∷ (i, w) ∷ [])
-        → MatchOption found ⊥ (λ error. (error.0 ≡ i) × (error.1 ≡ w)))
-        × MatchOption found ⊤ (λ error. error.0 < window)) }
+        → (error.0 ≡ i) × (error.1 ≡ w))
+        × (error.0 < window)) }
 {
     let (lower, upper) = sums_beside(residue, location);
     if lower == 0 && upper == 0 {
-        return None;
+        return Lookup::NoTable;
     }
     if lower == 0 || upper == 0 {
-        return Some(None);
+        return Lookup::Absent;
     }
     let (from, to) = (LOGARITHMS[lower as usize], LOGARITHMS[upper as usize]);
     let other = around(to as usize + 1023 - from as usize);
     if other >= window {
-        return Some(None);
+        return Lookup::Absent;
     }
     let value = value_beside(lower, location, other);
     if value >= 32 {
-        return Some(None);
+        return Lookup::Absent;
     }
-    Some(Some((other, Fe32::from_low_bits(value as u8))))
+    Lookup::Found((other, Fe32::from_low_bits(value as u8)))
 }
 
-// The element at a location that leaves a residue together with an error, if any. Out of line: few
-// texts come here.
+// The element at a location that leaves a residue together with an error. Out of line: few texts
+// come here.
 #[inline(never)]
-fn element_beside(residue: &[Fe32], location: usize, error: (usize, Fe32)) -> Option<Option<Fe32>>
+fn element_beside(residue: &[Fe32], location: usize, error: (usize, Fe32)) -> Lookup<Fe32>
     requires six { length residue.now ≡ 6 }
     requires small { location < 1023 }
     requires error { error.0 < 1023 }
-    ensures { MatchOption result ⊤ (λ found. MatchOption found
+    ensures { MatchLookup result
         ((v : Element)
         → IsLeftBy bech32.generator residue.now ((location, v) ∷ error ∷ []) → ⊥)
-        (λ v. IsLeftBy bech32.generator residue.now ((location, v) ∷ error ∷ []))) }
+        (λ v. IsLeftBy bech32.generator residue.now ((location, v) ∷ error ∷ [])) }
 {
     let row = multiple_of(POWERS_OF_X[error.0], error.1);
     value_at_one(packed_list(residue) ^ row, POWERS_OF_X[location])
 }
 
-// The element at a location and the error below a window that together leave a residue; says
-// nothing where the element alone may leave it, nor of other residues than those of six elements.
-// Out of line: few texts come here.
+// The element at a location and the error below a window that together leave a residue. There is no
+// table for a residue that the element alone may leave, nor for one that has not six elements. Out
+// of line: few texts come here.
 #[inline(never)]
-pub(super) fn one_beside_by_rows(residue: &[Fe32], location: usize, window: usize) -> Beside
-    ensures { MatchOption result ⊤
-        (λ found. IsBeside bech32.generator window residue.now location found) }
+pub(super) fn one_beside_by_rows(
+    residue: &[Fe32],
+    location: usize,
+    window: usize,
+) -> Lookup<(Fe32, (usize, Fe32))>
+    ensures { IsBeside bech32.generator window residue.now location result }
 {
     if residue.len() != 6 || window > 1023 || location >= 1023 {
-        return None;
+        return Lookup::NoTable;
     }
-    let Some(error) = error_beside(residue, location, window)? else {
-        return Some(None);
+    let error = match error_beside(residue, location, window) {
+        Lookup::Found(error) => error,
+        Lookup::Absent => return Lookup::Absent,
+        Lookup::NoTable => return Lookup::NoTable,
     };
-    let Some(element) = element_beside(residue, location, error)? else {
-        return Some(None);
-    };
-    Some(Some((element, error)))
+    match element_beside(residue, location, error) {
+        Lookup::Found(element) => Lookup::Found((element, error)),
+        Lookup::Absent => Lookup::Absent,
+        Lookup::NoTable => Lookup::NoTable,
+    }
 }

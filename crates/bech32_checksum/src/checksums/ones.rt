@@ -1,6 +1,6 @@
 //! One error by the generator of BIP-173, looked up by its remainder.
 
-ghost use Rattle.std.specs.Prelude.{◌≡◌, ◌≢◌, ◌<◌, ◌+◌, ◌*◌, ◌/◌, ◌%◌, ◌^◌, get_or, length, MatchOption, ⊤};
+ghost use Rattle.std.specs.Prelude.{◌≡◌, ◌≢◌, ◌<◌, ◌+◌, ◌*◌, ◌/◌, ◌%◌, ◌^◌, get_or, length};
 ghost use Rattle.bech32_gf.specs.Fe32 as fe32;
 ghost use Rattle.bech32_gf.specs.Fe32.{value};
 ghost use Rattle.bech32_poly.specs.Polynomial.{scale};
@@ -8,7 +8,7 @@ ghost use Rattle.bech32_checksum.specs.Code.{bech32};
 ghost use Rattle.bech32_checksum.specs.OneError.{IsSingle, leading, packed};
 
 use super::locations::{ANSWERS, KEYS, MOVES};
-use crate::sums;
+use crate::{Lookup, sums};
 use bech32_gf::gf32::Fe32;
 
 // The product of each two elements, the first one times 32 and the second added.
@@ -84,25 +84,25 @@ fn slot_of(number: u32) -> usize
     (moved % 1024) as usize
 }
 
-// The single error that leaves a residue; says nothing of a residue that is zero or has not six
-// elements.
+// The single error that leaves a residue. There is no table for a residue that is zero or has not
+// six elements.
 #[inline]
-pub(super) fn one_error_by_tables(residue: &[Fe32]) -> Option<Option<(usize, Fe32)>>
-    ensures { MatchOption result ⊤ (λ found. IsSingle bech32.generator 1023 residue.now found) }
+pub(super) fn one_error_by_tables(residue: &[Fe32]) -> Lookup<(usize, Fe32)>
+    ensures { IsSingle bech32.generator 1023 residue.now result }
 {
     if residue.len() != 6 {
-        return None;
+        return Lookup::NoTable;
     }
     let first = leading_of(residue);
     if first == Fe32::Q {
-        return None;
+        return Lookup::NoTable;
     }
     let key = packed_multiple(residue, inverse_of(first));
     let slot = slot_of(key);
     if KEYS[slot] != key {
-        return Some(None);
+        return Lookup::Absent;
     }
     let answer = ANSWERS[slot];
     let value = product_value(first, Fe32::from_low_bits((answer % 32) as u8));
-    Some(Some(((answer / 32) as usize, Fe32::from_low_bits(value as u8))))
+    Lookup::Found(((answer / 32) as usize, Fe32::from_low_bits(value as u8)))
 }

@@ -1,7 +1,7 @@
 //! Corrections that Bech32 and Bech32m look up, at each location.
 
 use crate::tests::compare::same;
-use bech32_checksum::{Bech32, Bech32m, Checksum, Engine, PackedFe32};
+use bech32_checksum::{Bech32, Bech32m, Checksum, Engine, Lookup, PackedFe32};
 use bech32_gf::gf32::Fe32;
 
 // The six coefficients of a packed remainder.
@@ -32,7 +32,7 @@ fn left(location: usize, value: Fe32) -> u32 {
 fn first_unknown<Ck: Checksum>() -> usize {
     for location in 0..1023usize {
         let residue = coefficients(&left(location, Fe32::L));
-        if Ck::one_error(&residue) != Some(Some((location, Fe32::L))) {
+        if Ck::one_error(&residue) != Lookup::Found((location, Fe32::L)) {
             return location;
         }
     }
@@ -49,7 +49,7 @@ fn each_location_is_looked_up(rt: HostRuntime) {
 fn is_found_beside<Ck: Checksum>(location: usize, other: usize) -> bool {
     let residue = coefficients(&(left(location, Fe32::Z) ^ left(other, Fe32::L)));
     let found = Ck::lookup_error_beside(&residue, location, 1023);
-    found == Some(Some((Fe32::Z, (other, Fe32::L))))
+    found == Lookup::Found((Fe32::Z, (other, Fe32::L)))
 }
 
 // The first location at which an error beside an element is not looked up: at the next one, and at

@@ -2,6 +2,7 @@
 
 use super::ways::shown;
 use crate::listings::numbers;
+use bech32::primitives::checksum::Lookup;
 use bech32::{Bech32, Bech32m, Checksum};
 use bech32_correction::lookup_listing;
 use bech32_decode::Reading;
@@ -12,9 +13,9 @@ use testing_tools::rows::{digits, no_row, word};
 // The one error that leaves a residue.
 fn one_error<Ck: Checksum>(alloc: Global, residue: &[Fe32]) -> Result<String, AllocError> {
     match Ck::one_error(residue) {
-        Some(Some((location, value))) => format!(in alloc; "{location}:{value}"),
-        Some(None) => String::from_str(alloc, "none"),
-        None => String::from_str(alloc, "unknown"),
+        Lookup::Found((location, value)) => format!(in alloc; "{location}:{value}"),
+        Lookup::Absent => String::from_str(alloc, "none"),
+        Lookup::NoTable => String::from_str(alloc, "unknown"),
     }
 }
 
@@ -26,11 +27,11 @@ fn beside<Ck: Checksum>(
     window: usize,
 ) -> Result<String, AllocError> {
     match Ck::lookup_error_beside(residue, location, window) {
-        Some(Some((value, (other, error)))) => {
+        Lookup::Found((value, (other, error))) => {
             format!(in alloc; "{location}:{value} {other}:{error}")
         }
-        Some(None) => String::from_str(alloc, "none"),
-        None => String::from_str(alloc, "unknown"),
+        Lookup::Absent => String::from_str(alloc, "none"),
+        Lookup::NoTable => String::from_str(alloc, "unknown"),
     }
 }
 
@@ -61,9 +62,9 @@ fn of_reading(
         return no_row(alloc);
     }
     match lookup_listing(reading, erasures) {
-        Some(Some(listing)) => shown(alloc, listing.as_slice()),
-        Some(None) => String::from_str(alloc, "none"),
-        None => String::from_str(alloc, "unknown"),
+        Lookup::Found(listing) => shown(alloc, listing.as_slice()),
+        Lookup::Absent => String::from_str(alloc, "none"),
+        Lookup::NoTable => String::from_str(alloc, "unknown"),
     }
 }
 

@@ -46,27 +46,27 @@ returns-then-has_target-clause-refused g c =
     (mended_by_nothing c.args.text.now c.args.erasures.now r.hrp.now r.data_part.now g.Ck.Checksum.code (rw c.in_ok-reading.ensures at r.is_reading.grammar)
     (rw c.in_ok-reading.ensures at c.in_ok-validate_lengths.ensures) (c.has_target.ensures.0 c.if-has_target.true))
 
-pub put_correction-requires-in-Some-Some : goal.put_correction-requires-in-Some-Some
-put_correction-requires-in-Some-Some g c = (
+pub put_correction-requires-in-Found : goal.put_correction-requires-in-Found
+put_correction-requires-in-Found g c = (
   c.args.erasures.now,
   g.Ck.Checksum.code,
-  mended_by_listing c.args.text.now c.in_ok-reading.reading.text.now c.args.erasures.now c.in-Some-Some.found c.as_slice.result.now g.Ck.Checksum.code g.Ck.Checksum.bound
-      c.requires c.in_ok-reading.ensures (rw c.in-Some-Some.field-0-is at (sym c.as_slice.ensures.value)) (rw c.in-Some-Some.field-0-is at (rw c.in-Some-Some.is at c.lookup_listing.ensures)),
+  mended_by_listing c.args.text.now c.in_ok-reading.reading.text.now c.args.erasures.now c.in-Found.found c.as_slice.result.now g.Ck.Checksum.code g.Ck.Checksum.bound
+      c.requires c.in_ok-reading.ensures (sym c.as_slice.ensures.value) (rw c.in-Found.is at c.lookup_listing.ensures),
 )
 
-pub returns-in-Some-Some-clause-value : goal.returns-in-Some-Some-clause-value
-returns-in-Some-Some-clause-value g c =
-    c.put_correction-in-Some-Some.ensures.value c.args.erasures.now g.Ck.Checksum.code
-    (mended_by_listing c.args.text.now c.in_ok-reading.reading.text.now c.args.erasures.now c.in-Some-Some.found c.as_slice.result.now g.Ck.Checksum.code g.Ck.Checksum.bound
-    c.requires c.in_ok-reading.ensures (rw c.in-Some-Some.field-0-is at (sym c.as_slice.ensures.value)) (rw c.in-Some-Some.field-0-is at (rw c.in-Some-Some.is at c.lookup_listing.ensures)))
+pub returns-in-Found-clause-value : goal.returns-in-Found-clause-value
+returns-in-Found-clause-value g c =
+    c.put_correction-in-Found.ensures.value c.args.erasures.now g.Ck.Checksum.code
+    (mended_by_listing c.args.text.now c.in_ok-reading.reading.text.now c.args.erasures.now c.in-Found.found c.as_slice.result.now g.Ck.Checksum.code g.Ck.Checksum.bound
+    c.requires c.in_ok-reading.ensures (sym c.as_slice.ensures.value) (rw c.in-Found.is at c.lookup_listing.ensures))
 
-pub returns-in-Some-Some-clause-refused : goal.returns-in-Some-Some-clause-refused
-returns-in-Some-Some-clause-refused g c =
-    c.put_correction-in-Some-Some.ensures.refused c.args.erasures.now g.Ck.Checksum.code
-    (mended_by_listing c.args.text.now c.in_ok-reading.reading.text.now c.args.erasures.now c.in-Some-Some.found c.as_slice.result.now g.Ck.Checksum.code g.Ck.Checksum.bound
-    c.requires c.in_ok-reading.ensures (rw c.in-Some-Some.field-0-is at (sym c.as_slice.ensures.value)) (rw c.in-Some-Some.field-0-is at (rw c.in-Some-Some.is at c.lookup_listing.ensures)))
+pub returns-in-Found-clause-refused : goal.returns-in-Found-clause-refused
+returns-in-Found-clause-refused g c =
+    c.put_correction-in-Found.ensures.refused c.args.erasures.now g.Ck.Checksum.code
+    (mended_by_listing c.args.text.now c.in_ok-reading.reading.text.now c.args.erasures.now c.in-Found.found c.as_slice.result.now g.Ck.Checksum.code g.Ck.Checksum.bound
+    c.requires c.in_ok-reading.ensures (sym c.as_slice.ensures.value) (rw c.in-Found.is at c.lookup_listing.ensures))
 
-pub returns-in-Some-None-clause-refused : goal.returns-in-Some-None-clause-refused
-returns-in-Some-None-clause-refused g c =
+pub returns-in-Absent-clause-refused : goal.returns-in-Absent-clause-refused
+returns-in-Absent-clause-refused g c =
     no_listing_there c.args.text.now c.in_ok-reading.reading.text.now c.args.erasures.now g.Ck.Checksum.code g.Ck.Checksum.bound
-    c.requires c.in_ok-reading.ensures (rw c.in-Some-None.field-0-is at (rw c.in-Some-None.is at c.lookup_listing.ensures))
+    c.requires c.in_ok-reading.ensures (rw c.in-Absent.is at c.lookup_listing.ensures)

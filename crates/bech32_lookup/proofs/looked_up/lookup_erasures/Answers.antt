@@ -1,7 +1,8 @@
-use Rattle.std.specs.Prelude.{⊤, slice_index}
-use Rattle.std.proofs.Common.{◌≡◌, ◌∙◌, ℕ, List, [], ◌∷◌, MatchOption, length, subst, sym, ap, arith}
+use Rattle.std.specs.Prelude.{slice_index}
+use Rattle.std.proofs.Common.{◌≡◌, ◌∙◌, ℕ, List, [], ◌∷◌, length, subst, sym, ap, arith}
 use Rattle.bech32_bch.specs.Erasures.{AreErasures}
 use Rattle.bech32_checksum.specs.Code.{Code}
+use Rattle.bech32_checksum.specs.Lookup.{IfLookedUp}
 use Rattle.bech32_checksum.proofs.Digits.{length-tabulate}
 use Rattle.bech32_bch.proofs.Candidates.{apart_inside}
 use Rattle.bech32_lookup.specs.Question.{IsAnswerTo}
@@ -14,7 +15,7 @@ returns-in-1 g c =
     let code = g.Ck.Checksum.code in
     let bound = g.Ck.Checksum.bound in
     let alone : c.args.given.now ≡ slice_index c.args.given.now 0 ∷ [] = only_one c.args.given.now (omega (arith, c.in-1.is)) in
-    subst (λ (s : List ℕ). MatchOption c.lookup_error_beside_erasure.result ⊤ (λ found. AreErasures c.args.window s × IsAnswerTo code bound (record { residue = c.args.residue.now; window = c.args.window; erasures = s }) found))
+    subst (λ (s : List ℕ). IfLookedUp c.lookup_error_beside_erasure.result (λ found. AreErasures c.args.window s × IsAnswerTo code bound (record { residue = c.args.residue.now; window = c.args.window; erasures = s }) found))
     (sym alone) c.lookup_error_beside_erasure.ensures
 
 pub returns-in-2 : goal.returns-in-2
