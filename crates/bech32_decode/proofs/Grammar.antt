@@ -1,5 +1,5 @@
 -- A text is refused by no fault exactly where it is in the grammar.
-use Rattle.std.proofs.Common.{◌≡◌, ◌↔◌, Result, Ok, Err, IsOk, ℕ, ◌+◌, true, false, List, [], ◌∷◌, ◌++◌, Option, Some, None, length, refl, sym, ap, ◌∙◌, take, drop, ◌-◌, append_assoc, length-append}
+use Rattle.std.proofs.Common.{◌≡◌, ℕ, ◌+◌, true, false, List, [], ◌∷◌, ◌++◌, Option, Some, None, length, refl, sym, ap, ◌∙◌, take, drop, ◌-◌, append_assoc, length-append}
 use Rattle.std.proofs.lemmas.Bool.{cond-false}
 use Rattle.std.proofs.lemmas.List.{take_rest, drop_at}
 use Rattle.std.proofs.lemmas.Option.{some_pair_parts}
@@ -47,9 +47,3 @@ only-from_IsText text hrp behind is h d e k =
 -- a text that is refused is not in the grammar
 pub not_in_grammar : (text : List ℕ) (e : UncheckedHrpstringError) → IsUtf8 text → text_refusal text ≡ Some e → IsInGrammar text → ⊥
 not_in_grammar text e u h g = absurd (let none = text_refusal-none text u g in cc)
-
--- no value is read of it
-pub none_read : {R : Type 0} (text : List ℕ) (r : Result R UncheckedHrpstringError) (e other : UncheckedHrpstringError) → r ≡ Err other → IsUtf8 text → text_refusal text ≡ Some e
-    → IsOk r ↔ IsInGrammar text
-none_read text (Ok x) e other is u h = absurd (cc)
-none_read text (Err x) e other is u h = (λ ok. absurd (cc), λ g. absurd (not_in_grammar text e u h g))
