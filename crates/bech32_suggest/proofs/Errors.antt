@@ -25,4 +25,5 @@ pub of_few : (n unread : ℕ) → n < 10 → most_errors n unread ≡ None
 of_few n unread h = ap (λ (b : Bool). cond b None (cond (ltb 3 unread) None (most_safe n unread))) (lt-ltb n 10 h)
 
 pub of_read : (n : ℕ) → 10 ≤ n → n ≤ max_typed_length → most_errors n 0 ≡ Some 2
-of_read n low high = at 0 2 10 82 (λ k l. agree_below_at (λ k. is 2 (most_errors (10 + k) 0)) (λ _. true) 82 k refl l) n low (omega (arith, high))
+of_read n low high =
+    at 0 2 10 max_typed_length (λ k l. agree_below_at (λ k. is 2 (most_errors (10 + k) 0)) (λ _. true) max_typed_length k refl l) n low (omega (arith, high))
