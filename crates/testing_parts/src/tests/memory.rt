@@ -103,9 +103,8 @@ impl InHeap for Call {
 }
 
 fn are_right_or_out_of_memory(rt: &impl Abort, alloc: Global) {
-    for (call, sizes) in [(Call::Block, (64, 16)), (Call::LowerCase, (16, 16))] {
-        right_or_wants_memory(alloc, &call, sizes).expect(rt, "right, or out of memory");
-    }
+    right_or_wants_memory(alloc, &Call::Block, (64, 16)).expect(rt, "right, or out of memory");
+    right_or_wants_memory(alloc, &Call::LowerCase, (16, 16)).expect(rt, "right, or out of memory");
 }
 
 fn a_remainder_wants_little(rt: &impl Abort, alloc: Global) {
