@@ -1,6 +1,6 @@
-//! Prints what each row of standard input gives, of the layers below the calls: fields, polynomials,
-//! registers, checksums, human-readable parts, bits, encoders, readers, descriptors, and the
-//! definitions as slow code. A row is words with `|` between two of them, or a tab:
+//! Prints what each row of standard input gives, of the layers below the calls: fields,
+//! polynomials, registers, checksums, human-readable parts, bits, encoders, readers, descriptors,
+//! and the definitions as slow code. A row is words with `|` between two of them, or a tab:
 //!
 //! - `register`, a field and a list: the length of a shortest register of the list, and where there
 //!   is only one, its coefficients and the ten items after the list;

@@ -5,7 +5,6 @@ mod device;
 mod encode;
 mod fields;
 mod fieldvec;
-mod items;
 mod lfsr;
 mod memory;
 mod pieces;

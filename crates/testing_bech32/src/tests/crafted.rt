@@ -7,6 +7,7 @@ use bech32_correction::Corrector;
 use bech32_gf::gf32::Fe32;
 use bech32_refusals::InvalidResidueError;
 use std::alloc::Global;
+use std::process::Abort;
 use testing_tools::known::times_x;
 
 // The product of the two factors of the generator of Bech32 of which the powers 25 and 26 of the
@@ -91,9 +92,8 @@ fn unlisted_products(alloc: Global) -> usize {
 }
 
 // The first syndrome is not zero, and the two others are: no pattern of so few errors has them.
-#[test]
-fn one_syndrome_of_three(rt: HostRuntime) {
-    same(&rt, &unlisted_products(rt.alloc()), &1023);
+fn one_syndrome_of_three(rt: &impl Abort, alloc: Global) {
+    same(rt, &unlisted_products(alloc), &1023);
 }
 
 // At how many locations from the last a pattern of one error, by long division, is listed as it is.
@@ -112,9 +112,8 @@ fn listed_errors(alloc: Global) -> usize {
     1023
 }
 
-#[test]
-fn one_error_at_each_location(rt: HostRuntime) {
-    same(&rt, &listed_errors(rt.alloc()), &1023);
+fn one_error_at_each_location(rt: &impl Abort, alloc: Global) {
+    same(rt, &listed_errors(alloc), &1023);
 }
 
 // How many residues with these coefficients of x^0 and x^5 alone have no listing.
@@ -130,7 +129,13 @@ fn unlisted_pairs(alloc: Global) -> usize {
 }
 
 // These are the residues of no pattern of one error.
+fn two_coefficients(rt: &impl Abort, alloc: Global) {
+    same(rt, &unlisted_pairs(alloc), &961);
+}
+
 #[test]
-fn two_coefficients(rt: HostRuntime) {
-    same(&rt, &unlisted_pairs(rt.alloc()), &961);
+fn listings_of_crafted_residues(rt: HostRuntime) {
+    one_syndrome_of_three(&rt, rt.alloc());
+    one_error_at_each_location(&rt, rt.alloc());
+    two_coefficients(&rt, rt.alloc());
 }

@@ -3,6 +3,7 @@
 use crate::tests::compare::same;
 use bech32_checksum::{Bech32, Bech32m, Checksum, Engine, Lookup, PackedFe32};
 use bech32_gf::gf32::Fe32;
+use std::process::Abort;
 
 // The six coefficients of a packed remainder.
 fn coefficients(residue: &u32) -> [Fe32; 6] {
@@ -39,10 +40,9 @@ fn first_unknown<Ck: Checksum>() -> usize {
     1023
 }
 
-#[test]
-fn each_location_is_looked_up(rt: HostRuntime) {
+fn each_location_is_looked_up(rt: &impl Abort) {
     let found = [first_unknown::<Bech32>(), first_unknown::<Bech32m>()];
-    same(&rt, &found, &[1023; 2]);
+    same(rt, &found, &[1023; 2]);
 }
 
 // Whether an error beside an element is looked up as these are.
@@ -66,7 +66,12 @@ fn first_unknown_beside<Ck: Checksum>() -> usize {
     1022
 }
 
+fn one_error_beside_an_element_is_looked_up(rt: &impl Abort) {
+    same(rt, &first_unknown_beside::<Bech32>(), &1022);
+}
+
 #[test]
-fn one_error_beside_an_element_is_looked_up(rt: HostRuntime) {
-    same(&rt, &first_unknown_beside::<Bech32>(), &1022);
+fn errors_are_looked_up(rt: HostRuntime) {
+    each_location_is_looked_up(&rt);
+    one_error_beside_an_element_is_looked_up(&rt);
 }

@@ -7,6 +7,7 @@ use bech32_correction::Corrector;
 use bech32_gf::gf32::Fe32;
 use linked_list_allocator::LocalHeap;
 use std::alloc::Global;
+use std::process::Abort;
 use testing_tools::codes::Degree13;
 use testing_tools::heaps::{InHeap, right_or_wants_memory};
 use testing_tools::known::{FOUR, FOUR_ERRORS};
@@ -86,9 +87,8 @@ impl InHeap for FourErrors {
     }
 }
 
-#[test]
-fn a_listing_or_out_of_memory(rt: HostRuntime) {
-    right_or_wants_memory(rt.alloc(), &FourErrors, (64, 16)).expect(&rt, "right, or out of memory");
+fn a_listing_or_out_of_memory(rt: &impl Abort, alloc: Global) {
+    right_or_wants_memory(alloc, &FourErrors, (64, 16)).expect(rt, "right, or out of memory");
 }
 
 // Whether Bech32 lists just this for a text that it refuses, or nothing.
@@ -107,9 +107,8 @@ const ADDRESS: &str = "bc1q9r0srrr7xfkvy5l64qlydnw9re59gtzzwf5mdx";
 
 // A single error, alone and beside an erasure; values at three erasures; and seven erasures, for
 // which nothing is listed.
-#[test]
-fn six_coefficients_take_no_memory(rt: HostRuntime) {
-    let heap = LocalHeap::new(rt.alloc(), 0).expect(&rt, "memory");
+fn six_coefficients_take_no_memory(rt: &impl Abort, alloc: Global) {
+    let heap = LocalHeap::new(alloc, 0).expect(rt, "memory");
     let three = [(37, Fe32::C), (0, Fe32::X), (20, Fe32::_3)];
     let found = [
         is_listed(&heap, ADDRESS, &[], None),
@@ -118,5 +117,11 @@ fn six_coefficients_take_no_memory(rt: HostRuntime) {
         is_listed(&heap, ADDRESS, &[37, 0, 20], Some(&three)),
         is_listed(&heap, "a12uel5q", &[0, 1, 2, 3, 4, 5, 6], None),
     ];
-    same(&rt, &found, &[Some(true); 5]);
+    same(rt, &found, &[Some(true); 5]);
+}
+
+#[test]
+fn listings_in_place_or_out_of_memory(rt: HostRuntime) {
+    a_listing_or_out_of_memory(&rt, rt.alloc());
+    six_coefficients_take_no_memory(&rt, rt.alloc());
 }

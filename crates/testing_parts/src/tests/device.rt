@@ -3,7 +3,9 @@ ghost use Rattle.std.specs.Io.KnownBytes.{Appends};
 
 use crate::tests::compare::{same, same_items};
 use io_traits::{ByteSink, ByteSource, Watched, write_all};
+use std::alloc::Global;
 use std::io;
+use std::process::Abort;
 use testing_tools::writers::Narrow;
 
 // Takes at most `most` bytes a call, or returns `Ok(0)`, and fails at its first flush.
@@ -112,11 +114,10 @@ fn write_to<W: io::Write>(writer: &mut W, bytes: &[u8]) -> io::Result<()>
     write_all(&mut sink, bytes)
 }
 
-#[test]
-fn write_all_to_a_writer_that_fails(rt: HostRuntime) {
+fn write_all_to_a_writer_that_fails(rt: &impl Abort, alloc: Global) {
     for room in 0..8usize {
         let mut writer = Narrow {
-            got: Vec::new(rt.alloc()),
+            got: Vec::new(alloc),
             room,
             step: 3,
             stuck: false,
@@ -127,19 +128,18 @@ fn write_all_to_a_writer_that_fails(rt: HostRuntime) {
         } else {
             (false, Ok(()), false)
         };
-        same(&rt, &(room, found), &(room, want));
-        same_items(&rt, &writer.got, &b"hello"[..room.min(5)]);
+        same(rt, &(room, found), &(room, want));
+        same_items(rt, &writer.got, &b"hello"[..room.min(5)]);
     }
     // And to one that does not fail.
-    let mut bytes = Vec::new(rt.alloc());
-    write_to(&mut bytes, b"hello").expect(&rt, "it is written");
-    same_items(&rt, &bytes, b"hello");
+    let mut bytes = Vec::new(alloc);
+    write_to(&mut bytes, b"hello").expect(rt, "it is written");
+    same_items(rt, &bytes, b"hello");
 }
 
-#[test]
-fn write_that_fails_marks(rt: HostRuntime) {
+fn write_that_fails_marks(rt: &impl Abort, alloc: Global) {
     let mut writer = Narrow {
-        got: Vec::new(rt.alloc()),
+        got: Vec::new(alloc),
         room: 4,
         step: 3,
         stuck: false,
@@ -154,8 +154,8 @@ fn write_that_fails_marks(rt: HostRuntime) {
         None,
         None,
     ];
-    same(&rt, &(first, again), &(want, Some((Some(1), false))));
-    same_items(&rt, &writer.got, b"hello");
+    same(rt, &(first, again), &(want, Some((Some(1), false))));
+    same_items(rt, &writer.got, b"hello");
 }
 
 // Four writes and a flush of a new sink over a writer.
@@ -170,8 +170,7 @@ fn write_five(writer: &mut Narrow) -> [Answer<usize>; 5] {
     ]
 }
 
-#[test]
-fn write_that_takes_nothing_marks(rt: HostRuntime) {
+fn write_that_takes_nothing_marks(rt: &impl Abort) {
     let mut writer = Clogged {
         most: 0,
         flushes: 0,
@@ -183,7 +182,7 @@ fn write_that_takes_nothing_marks(rt: HostRuntime) {
         write_once(&mut sink, b""),
     ];
     same_items(
-        &rt,
+        rt,
         &writes,
         &[Some((Some(0), false)), Some((Some(0), true)), None],
     );
@@ -195,11 +194,10 @@ fn write_that_takes_nothing_marks(rt: HostRuntime) {
         (false, Ok(()), false),
         (false, Err(io::ErrorKind::WriteZero), true),
     ];
-    same_items(&rt, &found, &want);
+    same_items(rt, &found, &want);
 }
 
-#[test]
-fn flush_that_fails_marks(rt: HostRuntime) {
+fn flush_that_fails_marks(rt: &impl Abort) {
     let mut writer = Clogged {
         most: usize::MAX,
         flushes: 0,
@@ -214,17 +212,12 @@ fn flush_that_fails_marks(rt: HostRuntime) {
     let mut again = Watched::new(&mut writer);
     let last = [flush_once(&mut again), write_once(&mut again, b"c")];
     let want = [Some((Some(2), false)), Some((None, true)), None, None];
-    same_items(&rt, &first, &want);
-    same_items(
-        &rt,
-        &last,
-        &[Some((Some(0), false)), Some((Some(1), false))],
-    );
-    same(&rt, &writer.flushes, &2);
+    same_items(rt, &first, &want);
+    same_items(rt, &last, &[Some((Some(0), false)), Some((Some(1), false))]);
+    same(rt, &writer.flushes, &2);
 }
 
-#[test]
-fn read_that_fails_marks(rt: HostRuntime) {
+fn read_that_fails_marks(rt: &impl Abort) {
     let mut reader = Hiccup {
         left: b"abc",
         good: Some(1),
@@ -232,7 +225,7 @@ fn read_that_fails_marks(rt: HostRuntime) {
     let found = [read_thrice(&mut reader), read_thrice(&mut reader)];
     let first = [byte(b'a'), (Some((None, true)), 0), (None, 0)];
     let then = [byte(b'b'), byte(b'c'), (Some((Some(0), false)), 0)];
-    same_items(&rt, &found, &[(false, first), (false, then)]);
+    same_items(rt, &found, &[(false, first), (false, then)]);
 }
 
 // A read that gave a byte.
@@ -250,4 +243,13 @@ fn read_thrice(reader: &mut Hiccup<'_>) -> (bool, [(Answer<usize>, u8); 3]) {
         read_once(&mut source),
     ];
     (marked_at_first, reads)
+}
+
+#[test]
+fn devices_that_fail_are_marked(rt: HostRuntime) {
+    write_all_to_a_writer_that_fails(&rt, rt.alloc());
+    write_that_fails_marks(&rt, rt.alloc());
+    write_that_takes_nothing_marks(&rt);
+    flush_that_fails_marks(&rt);
+    read_that_fails_marks(&rt);
 }

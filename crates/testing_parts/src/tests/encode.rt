@@ -30,25 +30,24 @@ fn elements_of(rt: &impl Abort, alloc: Global, characters: &[u8]) -> Vec<Fe32> {
     fes
 }
 
-#[test]
-fn version_before_two_elements(rt: HostRuntime) {
+fn version_before_two_elements(rt: &impl Abort) {
     let want = [Fe32::Q, Fe32::_4, Fe32::_4];
     let two = TwoItems::new(Fe32::_4, None);
     same(
-        &rt,
+        rt,
         &first_difference(WitnessVersionIter::new(Some(Fe32::Q), two), &want),
         &None,
     );
     let two = TwoOfFive::new(Fe32::_4);
     same(
-        &rt,
+        rt,
         &first_difference(WitnessVersionIter::new(Some(Fe32::Q), two), &want),
         &None,
     );
     let two = TwoItems::new(Fe32::_4, Some(usize::MAX));
     let want = [Fe32::_4, Fe32::_4];
     same(
-        &rt,
+        rt,
         &first_difference(WitnessVersionIter::new(None, two), &want),
         &None,
     );
@@ -118,12 +117,10 @@ fn two_without_checksum<Ck: Checksum>(rt: &impl Abort, hrp: &Hrp) {
     hint_of_checksummed::<_, Ck>(rt, many, exactly(usize::MAX));
 }
 
-#[test]
-fn texts_of_two_elements(rt: HostRuntime) {
-    let alloc = rt.alloc();
-    two_by_bech32::<Bech32>(&rt, alloc);
-    two_by_bech32m::<Bech32m>(&rt, alloc);
-    two_without_checksum::<NoChecksum>(&rt, &part(&rt, "a"));
+fn texts_of_two_elements(rt: &impl Abort, alloc: Global) {
+    two_by_bech32::<Bech32>(rt, alloc);
+    two_by_bech32m::<Bech32m>(rt, alloc);
+    two_without_checksum::<NoChecksum>(rt, &part(rt, "a"));
 }
 
 // Fails where an iterator gives other characters than these, or miscounts what is to come.
@@ -178,16 +175,15 @@ fn bounds_of_texts<Ck: Checksum>(rt: &impl Abort) {
     bounds_of_two_and_a_checksum::<Ck>(rt);
 }
 
-#[test]
-fn bounds_that_are_not_exact(rt: HostRuntime) {
+fn bounds_that_are_not_exact(rt: &impl Abort) {
     let two = TwoItems::new(Fe32::_4, None);
     let many = Many::new(Fe32::_4, usize::MAX);
     let found = [
         WitnessVersionIter::new(Some(Fe32::Q), two).size_hint(),
         WitnessVersionIter::new(Some(Fe32::Q), many).size_hint(),
     ];
-    same_items(&rt, &found, &[(1, None), (usize::MAX, None)]);
-    bounds_of_texts::<Bech32>(&rt);
+    same_items(rt, &found, &[(1, None), (usize::MAX, None)]);
+    bounds_of_texts::<Bech32>(rt);
 }
 
 // Fails where the bounds on texts without an end are other ones, or how they begin.
@@ -203,8 +199,15 @@ fn endless_begin<Ck: Checksum>(rt: &impl Abort, hrp: &Hrp, want: &[Fe32]) {
     begins(rt, fes, endless, &[Fe32::_4; 6]);
 }
 
+fn endless_elements(rt: &impl Abort, alloc: Global) {
+    let want = elements_of(rt, alloc, b"rrqpz44");
+    endless_begin::<Bech32>(rt, &part(rt, "ab"), &want);
+}
+
 #[test]
-fn endless_elements(rt: HostRuntime) {
-    let want = elements_of(&rt, rt.alloc(), b"rrqpz44");
-    endless_begin::<Bech32>(&rt, &part(&rt, "ab"), &want);
+fn texts_of_odd_iterators(rt: HostRuntime) {
+    version_before_two_elements(&rt);
+    texts_of_two_elements(&rt, rt.alloc());
+    bounds_that_are_not_exact(&rt);
+    endless_elements(&rt, rt.alloc());
 }

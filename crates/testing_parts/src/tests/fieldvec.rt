@@ -3,6 +3,7 @@ use bech32_gf::gf32::Fe32;
 use bech32_poly::fieldvec::{FieldVec, NO_ALLOC_MAX_LENGTH};
 use linked_list_allocator::LocalHeap;
 use std::alloc::{AllocError, Global};
+use std::process::Abort;
 
 // How many elements a vector has that could be cloned.
 fn length_of(made: Result<FieldVec<Fe32, &LocalHeap>, AllocError>) -> Option<usize> {
@@ -41,23 +42,21 @@ fn fitting(
     Ok(filled(&heap, count))
 }
 
-#[test]
-fn seven_in_place(rt: HostRuntime) {
-    same(&rt, &NO_ALLOC_MAX_LENGTH, &7);
+fn seven_in_place(rt: &impl Abort, alloc: Global) {
+    same(rt, &NO_ALLOC_MAX_LENGTH, &7);
     same(
-        &rt,
-        &fitting(rt.alloc(), 1 << 10, 7).expect(&rt, "memory"),
+        rt,
+        &fitting(alloc, 1 << 10, 7).expect(rt, "memory"),
         &(7, Some(7), 0),
     );
-    let (length, of_clone, used) = fitting(rt.alloc(), 1 << 10, 8).expect(&rt, "memory");
-    same(&rt, &(length, of_clone, used > 0), &(8, Some(8), true));
+    let (length, of_clone, used) = fitting(alloc, 1 << 10, 8).expect(rt, "memory");
+    same(rt, &(length, of_clone, used > 0), &(8, Some(8), true));
 }
 
-#[test]
-fn twenty_or_out_of_memory(rt: HostRuntime) {
+fn twenty_or_out_of_memory(rt: &impl Abort, alloc: Global) {
     let mut seen = [0u32; 3];
     for size in 0..64usize {
-        let kind = match fitting(rt.alloc(), 16 * size, 20).expect(&rt, "memory") {
+        let kind = match fitting(alloc, 16 * size, 20).expect(rt, "memory") {
             (20, Some(_), _) => 0,
             (20, None, _) => 1,
             _ => 2,
@@ -66,4 +65,10 @@ fn twenty_or_out_of_memory(rt: HostRuntime) {
     }
     let [whole, without_clone, less] = seen;
     assert!(rt; 1 <= whole && 1 <= without_clone && 1 <= less);
+}
+
+#[test]
+fn vectors_in_place_or_out_of_memory(rt: HostRuntime) {
+    seven_in_place(&rt, rt.alloc());
+    twenty_or_out_of_memory(&rt, rt.alloc());
 }

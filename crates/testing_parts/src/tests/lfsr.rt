@@ -57,28 +57,32 @@ fn made_with(
     (is_made, is_cloned, heap.used())
 }
 
-#[test]
-fn six_items_take_no_memory(rt: HostRuntime) {
+fn six_items_take_no_memory(rt: &impl Abort, alloc: Global) {
     let eight = eight();
     for count in 1..=6usize {
-        let items = eight.get(..count).expect(&rt, "too many");
-        let made = made_with(&rt, rt.alloc(), 1 << 10, items);
-        same(&rt, &(count, made), &(count, (true, Some(true), 0)));
+        let items = eight.get(..count).expect(rt, "too many");
+        let made = made_with(rt, alloc, 1 << 10, items);
+        same(rt, &(count, made), &(count, (true, Some(true), 0)));
     }
 }
 
-#[test]
-fn twenty_items_or_out_of_memory(rt: HostRuntime) {
+fn twenty_items_or_out_of_memory(rt: &impl Abort, alloc: Global) {
     let (mut refused, mut cloned) = (0u32, 0u32);
     for size in 0..64usize {
-        match made_with(&rt, rt.alloc(), 16 * size, &ELEMENTS[1..21]) {
+        match made_with(rt, alloc, 16 * size, &ELEMENTS[1..21]) {
             (false, _, _) => refused = refused.saturating_add(1),
             (true, Some(is_cloned), _) => {
-                same(&rt, &(size, is_cloned), &(size, true));
+                same(rt, &(size, is_cloned), &(size, true));
                 cloned = cloned.saturating_add(1);
             }
             (true, None, _) => {}
         }
     }
     assert!(rt; 1 <= refused && refused < 64 && 1 <= cloned);
+}
+
+#[test]
+fn registers_in_place_or_out_of_memory(rt: HostRuntime) {
+    six_items_take_no_memory(&rt, rt.alloc());
+    twenty_items_or_out_of_memory(&rt, rt.alloc());
 }

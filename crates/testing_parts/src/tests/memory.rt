@@ -4,9 +4,11 @@ ghost use Rattle.std.specs.Prelude.{◌≡◌, ◌<◌, ◌≤◌, length};
 
 use bech32_block::{PrintError, PrintImpl};
 use bech32_gf::gf32::Fe32;
+use bech32_hrp::Hrp;
 use bech32_poly::polynomial::remainder;
 use linked_list_allocator::LocalHeap;
 use std::alloc::Global;
+use std::process::Abort;
 use testing_tools::compare::shown;
 use testing_tools::heaps::{InHeap, right_or_wants_memory};
 
@@ -73,9 +75,21 @@ fn leaves_nine(heap: &LocalHeap) -> Option<bool> {
     }
 }
 
+// Whether a part of 36 characters is returned in lower case.
+fn lowers(heap: &LocalHeap) -> Option<bool> {
+    let Ok(hrp) = Hrp::parse("ABCDEFGHIJKLMNOPQRSTUVWXYZ0123456789") else {
+        return Some(false);
+    };
+    match hrp.to_lowercase_in(heap) {
+        Ok(text) => Some(text.as_str() == "abcdefghijklmnopqrstuvwxyz0123456789"),
+        Err(_) => None,
+    }
+}
+
 enum Call {
     Block,
     Remainder,
+    LowerCase,
 }
 
 impl InHeap for Call {
@@ -83,20 +97,23 @@ impl InHeap for Call {
         match self {
             Call::Block => prints_a_block(alloc, heap),
             Call::Remainder => leaves_nine(heap),
+            Call::LowerCase => lowers(heap),
         }
     }
 }
 
-#[test]
-fn a_block_or_out_of_memory(rt: HostRuntime) {
-    right_or_wants_memory(rt.alloc(), &Call::Block, (64, 16)).expect(
-        &rt,
-        "right, or out of memory",
-    );
+fn are_right_or_out_of_memory(rt: &impl Abort, alloc: Global) {
+    right_or_wants_memory(alloc, &Call::Block, (64, 16)).expect(rt, "right, or out of memory");
+    right_or_wants_memory(alloc, &Call::LowerCase, (16, 16)).expect(rt, "right, or out of memory");
+}
+
+fn a_remainder_wants_little(rt: &impl Abort, alloc: Global) {
+    let wanting = right_or_wants_memory(alloc, &Call::Remainder, (16, 16));
+    assert!(rt; wanting.expect(rt, "right, or out of memory") < 8);
 }
 
 #[test]
-fn a_remainder_or_out_of_memory(rt: HostRuntime) {
-    let wanting = right_or_wants_memory(rt.alloc(), &Call::Remainder, (16, 16));
-    assert!(rt; wanting.expect(&rt, "right, or out of memory") < 8);
+fn calls_or_out_of_memory(rt: HostRuntime) {
+    are_right_or_out_of_memory(&rt, rt.alloc());
+    a_remainder_wants_little(&rt, rt.alloc());
 }

@@ -75,14 +75,13 @@ fn on_a_heap(
 }
 
 // Of the calls only the product of seven coefficients, which has thirteen, takes memory.
-#[test]
-fn seven_coefficients_take_no_memory(rt: HostRuntime) {
-    let (of_four, _) = on_a_heap(&rt, rt.alloc(), 1 << 10, &[Fe32::P; 4]);
-    let (of_seven, _) = on_a_heap(&rt, rt.alloc(), 1 << 10, &[Fe32::P; 7]);
+fn seven_coefficients_take_no_memory(rt: &impl Abort, alloc: Global) {
+    let (of_four, _) = on_a_heap(rt, alloc, 1 << 10, &[Fe32::P; 4]);
+    let (of_seven, _) = on_a_heap(rt, alloc, 1 << 10, &[Fe32::P; 7]);
     let none = [(false, false); 6];
     let mut product = none;
     product[2] = (false, true);
-    same(&rt, &[of_four, of_seven], &[Some(none), Some(product)]);
+    same(rt, &[of_four, of_seven], &[Some(none), Some(product)]);
 }
 
 const ONES: [Fe32; 20] = [Fe32::P; 20];
@@ -102,11 +101,10 @@ fn are_some(rt: &impl Abort, counts: [u32; 6], most: u32) {
     }
 }
 
-#[test]
-fn twenty_coefficients_or_out_of_memory(rt: HostRuntime) {
+fn twenty_coefficients_or_out_of_memory(rt: &impl Abort, alloc: Global) {
     let (mut calls, mut itself, mut vectors) = ([0u32; 6], 0u32, 0u32);
     for size in 0..64usize {
-        match on_a_heap(&rt, rt.alloc(), 16 * size, &ONES) {
+        match on_a_heap(rt, alloc, 16 * size, &ONES) {
             (Some(outcomes), vector) => {
                 add(&mut calls, &outcomes);
                 vectors = vectors.saturating_add(u32::from(vector));
@@ -114,6 +112,12 @@ fn twenty_coefficients_or_out_of_memory(rt: HostRuntime) {
             (None, _) => itself = itself.saturating_add(1),
         }
     }
-    are_some(&rt, calls, 32);
+    are_some(rt, calls, 32);
     assert!(rt; 1 <= itself && itself < 32 && vectors < 32);
+}
+
+#[test]
+fn polynomials_in_place_or_out_of_memory(rt: HostRuntime) {
+    seven_coefficients_take_no_memory(&rt, rt.alloc());
+    twenty_coefficients_or_out_of_memory(&rt, rt.alloc());
 }

@@ -161,18 +161,17 @@ fn each_byte_of_each_form_fails(rt: &impl Abort, alloc: Global, given: &Given<'_
     }
 }
 
-#[test]
-fn every_byte_may_fail(rt: HostRuntime) {
-    let (hrp, data) = (part(&rt, "test"), data());
+fn every_byte_may_fail(rt: &impl Abort, alloc: Global) {
+    let (hrp, data) = (part(rt, "test"), data());
     for size in 0..41usize {
         let given = Given {
             hrp,
             version: VERSION_0,
             data: &data[..size],
         };
-        each_byte_of_each_form_fails(&rt, rt.alloc(), &given);
+        each_byte_of_each_form_fails(rt, alloc, &given);
     }
-    each_byte_of_each_form_fails(&rt, rt.alloc(), &long_address(&rt));
+    each_byte_of_each_form_fails(rt, alloc, &long_address(rt));
 }
 
 // Fails where a writer that takes nothing at its first call is called again, or another error is
@@ -202,10 +201,9 @@ fn ends_at_each(rt: &impl Abort, alloc: Global, form: Form) {
     }
 }
 
-#[test]
-fn the_first_error_ends_the_call(rt: HostRuntime) {
+fn the_first_error_ends_the_call(rt: &impl Abort, alloc: Global) {
     for form in FORMS {
-        ends_at_each(&rt, rt.alloc(), form);
+        ends_at_each(rt, alloc, form);
     }
 }
 
@@ -243,9 +241,15 @@ fn tells_each(rt: &impl Abort, alloc: Global, form: Form) {
     tells(rt, alloc, form, io::Error::new(kind, "the tape is full"));
 }
 
-#[test]
-fn the_error_is_the_writers_own(rt: HostRuntime) {
+fn the_error_is_the_writers_own(rt: &impl Abort, alloc: Global) {
     for form in FORMS {
-        tells_each(&rt, rt.alloc(), form);
+        tells_each(rt, alloc, form);
     }
+}
+
+#[test]
+fn writers_that_fail(rt: HostRuntime) {
+    every_byte_may_fail(&rt, rt.alloc());
+    the_first_error_ends_the_call(&rt, rt.alloc());
+    the_error_is_the_writers_own(&rt, rt.alloc());
 }
