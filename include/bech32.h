@@ -323,8 +323,8 @@ uint32_t bech32_correct(uint32_t checksum, const uint8_t *text, size_t text_leng
  *
  * Tested, and not proved: that no function ever keeps the memory, and that none returns 91 if as many
  * bytes are lent as is stated below. tools/every-length lent and tools/nearest make calls at every length,
- * each with exactly that many bytes; the tests lists_or_wants_memory and lists_edits_or_wants_memory of
- * bech32_c, and proposes_or_wants_memory of codex32_c, lend fewer.
+ * each with exactly that many bytes; the tests lists_or_wants_memory of bech32_c and
+ * names_the_least_memory of codex32_c lend fewer.
  */
 typedef struct {
     uint8_t *start;

@@ -3,9 +3,7 @@ mod confidential;
 mod descriptor;
 mod elements;
 mod messages;
-mod near;
-mod near_edits;
-mod suggest;
+mod searches;
 
 use crate::correct::bech32_correct;
 use crate::decode::{bech32_check, bech32_decode};
@@ -88,24 +86,6 @@ fn answers(
     same(rt, &found, &(want, count, true));
 }
 
-// What is listed: how many texts there are, and of those that are put the kinds, the places, and
-// they themselves, one behind another.
-type Listed<'a> = (usize, &'a [u8], &'a [usize], &'a [u8]);
-
-const NONE: Listed<'static> = (0, b"", &[], b"");
-
-// Fails where a count and buffers are not what they are to be: where the number is 0 or 92, what is
-// listed, and else as they were.
-fn lists(rt: &impl Abort, number: u32, found: Listed<'_>, listed: Listed<'_>) {
-    let want = match number {
-        0 | 92 => listed,
-        _ => (LENGTH_BEFORE, NONE.1, NONE.2, NONE.3),
-    };
-    let are_put = has_front(found.1, want.1) && has_places(found.2, want.2);
-    let holds = (found.0, are_put, has_front(found.3, want.3));
-    same(rt, &holds, &(want.0, true, true));
-}
-
 // What encoding bytes into a buffer returns, and the length that it leaves.
 fn encoded(row: (u32, &[u8], &[u8]), buffer: &mut [u8]) -> (u32, usize) {
     let mut count = LENGTH_BEFORE;
@@ -121,45 +101,40 @@ fn encodes(rt: &impl Abort, row: (u32, &[u8], &[u8]), room: usize, want: (u32, &
     answers(rt, number, (count, &buffer), want);
 }
 
-// Each text into a buffer with more room than it has, with as much, and with one byte less.
+// The checksum, the human-readable part and the bytes; the room; and the number and the text.
+const ENCODE_ROWS: &[((u32, &[u8], &[u8]), usize, (u32, &[u8]))] = &[
+    ((1, b"a", b""), 64, (0, b"a12uel5l")),
+    ((1, b"a", b""), 7, (92, b"")),
+    ((2, b"A", b""), 8, (0, b"a1lqfn3a")),
+    ((2, b"a", b"\x88\0\0"), 64, (0, b"a13qqqq9qz88s")),
+    ((2, b"a", b"\x88\0\0"), 13, (0, b"a13qqqq9qz88s")),
+    ((2, b"a", b"\x88\0\0"), 12, (92, b"")),
+    (
+        (1, b"test", &BYTES),
+        43,
+        (0, b"test1lu08d6qejxtdg4y5r3zarvary0c5xw7kw79nnx"),
+    ),
+    (
+        (2, b"test", &BYTES),
+        43,
+        (0, b"test1lu08d6qejxtdg4y5r3zarvary0c5xw7kmz4lky"),
+    ),
+    ((2, b"test", &BYTES), 42, (92, b"")),
+    ((0, b"", b""), 128, (4, b"")),
+    ((5, b"\xff", b""), 128, (4, b"")),
+    ((u32::MAX, b"a", b""), 128, (4, b"")),
+    ((1, b"a\xff", b""), 128, (2, b"")),
+    ((1, b"", b""), 128, (11, b"")),
+    ((1, &[b'a'; 84], b""), 128, (12, b"")),
+    ((2, b"\xc3\xa9", b""), 128, (13, b"")),
+    ((1, b"a b", b""), 128, (14, b"")),
+    ((2, b"aB", b""), 0, (15, b"")),
+];
+
 #[test]
 fn encodes_known_texts(rt: HostRuntime) {
-    const ROWS: &[(u32, &[u8], &[u8], &[u8])] = &[
-        (1, b"a", b"", b"a12uel5l"),
-        (2, b"A", b"", b"a1lqfn3a"),
-        (2, b"a", b"\x88\0\0", b"a13qqqq9qz88s"),
-        (
-            1,
-            b"test",
-            &BYTES,
-            b"test1lu08d6qejxtdg4y5r3zarvary0c5xw7kw79nnx",
-        ),
-        (
-            2,
-            b"test",
-            &BYTES,
-            b"test1lu08d6qejxtdg4y5r3zarvary0c5xw7kmz4lky",
-        ),
-    ];
-    for &(checksum, hrp, bytes, text) in ROWS {
-        let row = (checksum, hrp, bytes);
-        encodes(&rt, row, 64, (0, text));
-        encodes(&rt, row, text.len(), (0, text));
-        encodes(&rt, row, text.len().saturating_sub(1), (92, b""));
-    }
-    const REFUSED: &[(u32, &[u8], u32)] = &[
-        (0, b"", 4),
-        (5, b"\xff", 4),
-        (u32::MAX, b"a", 4),
-        (1, b"a\xff", 2),
-        (1, b"", 11),
-        (1, &[b'a'; 84], 12),
-        (2, b"\xc3\xa9", 13),
-        (1, b"a b", 14),
-        (2, b"aB", 15),
-    ];
-    for &(checksum, hrp, want) in REFUSED {
-        encodes(&rt, (checksum, hrp, b""), 128, (want, b""));
+    for &(row, room, want) in ENCODE_ROWS {
+        encodes(&rt, row, room, want);
     }
 }
 
@@ -177,82 +152,69 @@ fn decodes(rt: &impl Abort, text: &[u8], rooms: (usize, usize), want: Parts<'_>)
     answers(rt, number, (count, &bytes), (want.0, want.2));
 }
 
-// What the test of a text returns, and the lengths that it leaves.
-fn checked(checksum: u32, text: &[u8]) -> (u32, usize, usize) {
+// Fails where the test of a text gives another number, or where the lengths are not what they are
+// to be then: on 0 those of a human-readable part of so many bytes and of the data part, and else
+// as they were.
+fn checks(rt: &impl Abort, checksum: u32, text: &[u8], (want, part): (u32, usize)) {
     let (mut hrp_count, mut count) = (LENGTH_BEFORE, LENGTH_BEFORE);
     let number = bech32_check(checksum, text, &mut hrp_count, &mut count);
-    (number, hrp_count, count)
+    let (hrp_length, length) = if want == 0 {
+        (part, text.len().saturating_sub(part.saturating_add(7)))
+    } else {
+        (LENGTH_BEFORE, LENGTH_BEFORE)
+    };
+    same(rt, &(number, hrp_count, count), &(want, hrp_length, length));
 }
 
-// Fails where the test of a text is not refused by this number.
-fn is_unchecked(rt: &impl Abort, checksum: u32, text: &[u8], number: u32) {
-    let want = (number, LENGTH_BEFORE, LENGTH_BEFORE);
-    same(rt, &checked(checksum, text), &want);
-}
+// A text, the rooms for its parts, what it is decoded to, and the numbers by which Bech32 and
+// Bech32m accept or refuse it.
+const DECODE_ROWS: &[(&[u8], (usize, usize), Parts<'static>, (u32, u32))] = &[
+    (b"A12UEL5L", (83, 634), (0, b"A", b""), (0, 33)),
+    (b"a1lqfn3a", (1, 0), (0, b"a", b""), (33, 0)),
+    (b"?1v759aa", (83, 0), (0, b"?", b""), (33, 0)),
+    (b"a13qqqq9qz88s", (83, 634), (0, b"a", b"\x88\0\0"), (33, 0)),
+    (
+        b"test1lu08d6qejxtdg4y5r3zarvary0c5xw7kw79nnx",
+        (4, 20),
+        (0, b"test", &BYTES),
+        (0, 33),
+    ),
+    (LOWER_TEXT, (83, 634), (0, b"test", &BYTES), (33, 0)),
+    (LOWER_TEXT, (3, 20), (92, b"test", b""), (33, 0)),
+    (LOWER_TEXT, (4, 19), (92, b"test", b""), (33, 0)),
+    (LOWER_TEXT, (0, 0), (92, b"test", b""), (33, 0)),
+    (b"\xff", (83, 634), (2, b"", b""), (2, 2)),
+    (b"1qqqqqq", (83, 634), (11, b"", b""), (11, 11)),
+    (
+        b"an84characterslonghumanreadablepartthatcontainsthetheexcludedcharactersbioandnumber11d6pts4",
+        (83, 634),
+        (12, b"", b""),
+        (12, 12),
+    ),
+    (b"\xc3\xa91qqqqqq", (83, 634), (13, b"", b""), (13, 13)),
+    (b" 1nwldj5", (83, 634), (14, b"", b""), (14, 14)),
+    (b"a12uel5l\r", (83, 634), (21, b"", b""), (21, 21)),
+    (b"Q1q", (83, 634), (22, b"", b""), (22, 22)),
+    (b"qpzry", (83, 634), (23, b"", b""), (23, 23)),
+    (&[b'q'; 1024], (83, 634), (23, b"", b""), (23, 23)),
+    (b"a1", (83, 634), (32, b"", b""), (32, 32)),
+    (b"b12uel5l", (0, 0), (33, b"", b""), (33, 33)),
+];
 
-// Each text into buffers with more room than its parts have, with as much, and one with less. The
-// checksum of this number accepts it, and the other does not.
+const LOWER_TEXT: &[u8] = b"test1lu08d6qejxtdg4y5r3zarvary0c5xw7kmz4lky";
+
 #[test]
 fn decodes_into_buffers(rt: HostRuntime) {
-    const ROWS: &[(&[u8], u32, &[u8], &[u8])] = &[
-        (b"A12UEL5L", 1, b"A", b""),
-        (b"a1lqfn3a", 2, b"a", b""),
-        (b"?1v759aa", 2, b"?", b""),
-        (b"a13qqqq9qz88s", 2, b"a", b"\x88\0\0"),
-        (
-            b"test1lu08d6qejxtdg4y5r3zarvary0c5xw7kw79nnx",
-            1,
-            b"test",
-            &BYTES,
-        ),
-        (
-            b"test1lu08d6qejxtdg4y5r3zarvary0c5xw7kmz4lky",
-            2,
-            b"test",
-            &BYTES,
-        ),
-    ];
-    for &(text, checksum, part, found) in ROWS {
-        decodes(&rt, text, (83, 634), (0, part, found));
-        decodes(&rt, text, (part.len(), found.len()), (0, part, found));
-        is_unchecked(&rt, 3u32.saturating_sub(checksum), text, 33);
-        let count = text.len().saturating_sub(part.len().saturating_add(7));
-        same(&rt, &checked(checksum, text), &(0, part.len(), count));
+    for &(text, rooms, want, (by_bech32, by_bech32m)) in DECODE_ROWS {
+        decodes(&rt, text, rooms, want);
+        checks(&rt, 1, text, (by_bech32, want.1.len()));
+        checks(&rt, 2, text, (by_bech32m, want.1.len()));
     }
-    let text = b"test1lu08d6qejxtdg4y5r3zarvary0c5xw7kmz4lky";
-    const SMALL: &[(usize, usize)] = &[(3, 20), (4, 19), (0, 0)];
-    for &rooms in SMALL {
-        decodes(&rt, text, rooms, (92, b"", b""));
-    }
+    checks(&rt, 0, b"\xff", (4, 0));
 }
 
-#[test]
-fn refuses_to_decode(rt: HostRuntime) {
-    const ROWS: &[(&[u8], u32)] = &[
-        (b"\xff", 2),
-        (b"1qqqqqq", 11),
-        (
-            b"an84characterslonghumanreadablepartthatcontainsthetheexcludedcharactersbioandnumber11d6pts4",
-            12,
-        ),
-        (b"\xc3\xa91qqqqqq", 13),
-        (b" 1nwldj5", 14),
-        (b"a12uel5l\r", 21),
-        (b"Q1q", 22),
-        (b"qpzry", 23),
-        (&[b'q'; 1024], 23),
-        (b"a1", 32),
-        (b"b12uel5l", 33),
-    ];
-    for &(text, want) in ROWS {
-        decodes(&rt, text, (83, 634), (want, b"", b""));
-        is_unchecked(&rt, 1, text, want);
-        is_unchecked(&rt, 2, text, want);
-        is_unchecked(&rt, 0, text, 4);
-    }
-}
-
-// As many zeros as fit a text, and one more; and as many as fit one by the checksum for long texts.
+// As many zeros as fit a text, and one more; as many as fit one by the checksum for long texts; and
+// texts of more characters than a checksum allows.
 #[test]
 fn long_texts(rt: HostRuntime) {
     const ROWS: &[(u32, usize, usize, (u32, usize))] = &[
@@ -268,21 +230,16 @@ fn long_texts(rt: HostRuntime) {
         same(&rt, &encoded((checksum, b"a", bytes), front), &want);
     }
     let (front, _) = text.split_at(7088);
-    same(&rt, &checked(3, front), &(0, 1, 7080));
-    is_unchecked(&rt, 4, front, 33);
-    is_unchecked(&rt, 1, front, 31);
-}
-
-// Texts of more characters than a checksum allows.
-#[test]
-fn texts_above_the_code_length(rt: HostRuntime) {
+    checks(&rt, 3, front, (0, 1));
+    checks(&rt, 4, front, (33, 1));
+    checks(&rt, 1, front, (31, 1));
     let mut longer = [b'q'; 7090];
     longer[1] = b'1';
-    is_unchecked(&rt, 4, &longer, 31);
-    let (text, _) = longer.split_at(1024);
-    is_unchecked(&rt, 2, text, 31);
-    decodes(&rt, text, (83, 634), (31, b"", b""));
-    mends(&rt, (2, text, &[]), (4, 4, 64), (31, &[], b"", b""));
+    checks(&rt, 4, &longer, (31, 1));
+    let (longer, _) = longer.split_at(1024);
+    checks(&rt, 2, longer, (31, 1));
+    decodes(&rt, longer, (83, 634), (31, b"", b""));
+    mends(&rt, (2, longer, &[]), (4, 4, 64), (31, &[], b"", b""));
 }
 
 // What an address is read as: the number, and on 0 the human-readable part, the version and the
@@ -309,153 +266,145 @@ fn writes(rt: &impl Abort, row: (&[u8], u32, &[u8]), room: usize, want: (u32, &[
     answers(rt, number, (count, &buffer), want);
 }
 
-// Each address is read, and written again, in lower case, and not into buffers that are too small.
-// The last row has the longest program there is: it is of a reference model.
+// Each address is read into buffers with more room or with as much. The last has the longest
+// program there is: it is of a reference model.
+const READ_ROWS: &[(&[u8], (usize, usize), Address<'static>)] = &[
+    (
+        b"BC1QW508D6QEJXTDG4Y5R3ZARVARY0C5XW7KV8F3T4",
+        (83, 40),
+        (0, b"BC", 0, &PROGRAM),
+    ),
+    (ADDRESS, (2, 20), (0, b"bc", 0, &PROGRAM)),
+    (ADDRESS, (1, 20), (92, b"", u32::MAX, b"")),
+    (ADDRESS, (2, 19), (92, b"", u32::MAX, b"")),
+    (ADDRESS, (0, 0), (92, b"", u32::MAX, b"")),
+    (TAPROOT_ADDRESS, (2, 32), (0, b"bc", 1, &TAPROOT)),
+    (b"BC1SW50QGDZ25J", (83, 40), (0, b"BC", 16, b"\x75\x1e")),
+    (LONGEST_ADDRESS, (83, 40), (0, b"bc", 1, &[0; 40])),
+];
+
+// Texts that are no addresses, of BIP-173 and BIP-350.
+const REFUSED_ROWS: &[(&[u8], u32)] = &[
+    (b"\xff", 2),
+    (b"1pzry9x0s0muk", 11),
+    (
+        b"bc1p38j9r5y49hruaue7wxjce0updqjuyyx0kh56v8s25huc6995vvpql3jow4",
+        21,
+    ),
+    (
+        b"tb1p0xlxvlhemja6c4dqv22uapctqupfhlxm9h8z3k2e72q4k9hcz7vq47Zagq",
+        22,
+    ),
+    (b"pzry9x0s0muk", 23),
+    (
+        b"tb1q0xlxvlhemja6c4dqv22uapctqupfhlxm9h8z3k2e72q4k9hcz7vq24jc47",
+        33,
+    ),
+    (
+        b"anhrpthatistwentycha1pqyqszqgpqyqszqgpqyqszqgpqyqszqgpqyqszqgpqyqszqgpqyqszqgpqyqszqgqfrwjz",
+        41,
+    ),
+    (b"a1", 42),
+    (
+        b"BC130XLXVLHEMJA6C4DQV22UAPCTQUPFHLXM9H8Z3K2E72Q4K9HCZ7VQ7ZWS8R",
+        43,
+    ),
+    (
+        b"bc1p0xlxvlhemja6c4dqv22uapctqupfhlxm9h8z3k2e72q4k9hcz7v07qwwzcrf",
+        44,
+    ),
+    (
+        b"tb1p0xlxvlhemja6c4dqv22uapctqupfhlxm9h8z3k2e72q4k9hcz7vpggkg4j",
+        45,
+    ),
+    (b"bc1pw5dgrnzv", 46),
+    (
+        b"bc1p0xlxvlhemja6c4dqv22uapctqupfhlxm9h8z3k2e72q4k9hcz7v8n0nx0muaewav253zgeav",
+        47,
+    ),
+    (b"BC1QR508D6QEJXTDG4Y5R3ZARVARYV98GJ9P", 48),
+    (b"BC1SW50QGDZ25K", 33),
+];
+
+// The human-readable part, the version and the program; the room; and the number and the address.
+const WRITE_ROWS: &[((&[u8], u32, &[u8]), usize, (u32, &[u8]))] = &[
+    ((b"BC", 0, &PROGRAM), 90, (0, ADDRESS)),
+    ((b"bc", 0, &PROGRAM), 42, (0, ADDRESS)),
+    ((b"bc", 0, &PROGRAM), 41, (92, b"")),
+    ((b"bc", 1, &TAPROOT), 62, (0, TAPROOT_ADDRESS)),
+    ((b"BC", 16, b"\x75\x1e"), 14, (0, b"bc1sw50qgdz25j")),
+    ((b"BC", 16, b"\x75\x1e"), 13, (92, b"")),
+    ((b"bc", 1, &[0; 40]), 90, (0, LONGEST_ADDRESS)),
+    ((b"\xff", 32, b"\0"), 90, (4, b"")),
+    ((b"bc", u32::MAX, &[0; 20]), 90, (4, b"")),
+    ((b"\xff", 17, b"\0"), 90, (2, b"")),
+    ((b"", 17, b"\0"), 90, (11, b"")),
+    ((b"aB", 17, b"\0"), 90, (15, b"")),
+    ((b"bc", 31, b"\0"), 90, (52, b"")),
+    ((b"bc", 17, &[0; 41]), 90, (52, b"")),
+    ((b"bc", 1, b"\0"), 90, (46, b"")),
+    ((b"bc", 1, &[0; 41]), 90, (47, b"")),
+    ((b"bc", 0, &[0; 21]), 90, (48, b"")),
+    ((b"anhrpthatis19charsx", 1, &[0; 40]), 0, (53, b"")),
+];
+
 #[test]
 fn known_addresses(rt: HostRuntime) {
-    const ROWS: &[(&[u8], &[u8], u32, &[u8], &[u8])] = &[
-        (
-            b"BC1QW508D6QEJXTDG4Y5R3ZARVARY0C5XW7KV8F3T4",
-            b"BC",
-            0,
-            &PROGRAM,
-            ADDRESS,
-        ),
-        (ADDRESS, b"bc", 0, &PROGRAM, ADDRESS),
-        (TAPROOT_ADDRESS, b"bc", 1, &TAPROOT, TAPROOT_ADDRESS),
-        (b"BC1SW50QGDZ25J", b"BC", 16, b"\x75\x1e", b"bc1sw50qgdz25j"),
-        (LONGEST_ADDRESS, b"bc", 1, &[0; 40], LONGEST_ADDRESS),
-    ];
-    for &(text, part, version, program, lower) in ROWS {
-        reads(&rt, text, (83, 40), (0, part, version, program));
-        let rooms = (part.len(), program.len());
-        reads(&rt, text, rooms, (0, part, version, program));
-        let row = (part, version, program);
-        writes(&rt, row, 90, (0, lower));
-        writes(&rt, row, lower.len().saturating_sub(1), (92, b""));
+    for &(text, rooms, want) in READ_ROWS {
+        reads(&rt, text, rooms, want);
     }
-    const SMALL: &[(usize, usize)] = &[(1, 20), (2, 19), (0, 0)];
-    for &rooms in SMALL {
-        reads(&rt, ADDRESS, rooms, (92, b"", u32::MAX, b""));
-    }
-}
-
-#[test]
-fn refuses_addresses(rt: HostRuntime) {
-    // Of BIP-173 and BIP-350.
-    const ROWS: &[(&[u8], u32)] = &[
-        (b"\xff", 2),
-        (b"1pzry9x0s0muk", 11),
-        (
-            b"bc1p38j9r5y49hruaue7wxjce0updqjuyyx0kh56v8s25huc6995vvpql3jow4",
-            21,
-        ),
-        (
-            b"tb1p0xlxvlhemja6c4dqv22uapctqupfhlxm9h8z3k2e72q4k9hcz7vq47Zagq",
-            22,
-        ),
-        (b"pzry9x0s0muk", 23),
-        (
-            b"tb1q0xlxvlhemja6c4dqv22uapctqupfhlxm9h8z3k2e72q4k9hcz7vq24jc47",
-            33,
-        ),
-        (
-            b"anhrpthatistwentycha1pqyqszqgpqyqszqgpqyqszqgpqyqszqgpqyqszqgpqyqszqgpqyqszqgpqyqszqgqfrwjz",
-            41,
-        ),
-        (b"a1", 42),
-        (
-            b"BC130XLXVLHEMJA6C4DQV22UAPCTQUPFHLXM9H8Z3K2E72Q4K9HCZ7VQ7ZWS8R",
-            43,
-        ),
-        (
-            b"bc1p0xlxvlhemja6c4dqv22uapctqupfhlxm9h8z3k2e72q4k9hcz7v07qwwzcrf",
-            44,
-        ),
-        (
-            b"tb1p0xlxvlhemja6c4dqv22uapctqupfhlxm9h8z3k2e72q4k9hcz7vpggkg4j",
-            45,
-        ),
-        (b"bc1pw5dgrnzv", 46),
-        (
-            b"bc1p0xlxvlhemja6c4dqv22uapctqupfhlxm9h8z3k2e72q4k9hcz7v8n0nx0muaewav253zgeav",
-            47,
-        ),
-        (b"BC1QR508D6QEJXTDG4Y5R3ZARVARYV98GJ9P", 48),
-        (b"BC1SW50QGDZ25K", 33),
-    ];
-    for &(text, want) in ROWS {
+    for &(text, want) in REFUSED_ROWS {
         reads(&rt, text, (83, 40), (want, b"", u32::MAX, b""));
     }
-}
-
-#[test]
-fn refuses_to_write_addresses(rt: HostRuntime) {
-    const ROWS: &[(&[u8], u32, usize, u32)] = &[
-        (b"\xff", 32, 1, 4),
-        (b"bc", u32::MAX, 20, 4),
-        (b"\xff", 17, 1, 2),
-        (b"", 17, 1, 11),
-        (b"aB", 17, 1, 15),
-        (b"bc", 31, 1, 52),
-        (b"bc", 17, 41, 52),
-        (b"bc", 1, 1, 46),
-        (b"bc", 1, 41, 47),
-        (b"bc", 0, 21, 48),
-        (b"anhrpthatis19charsx", 1, 40, 53),
-    ];
-    let bytes = [0u8; 41];
-    for &(hrp, version, size, want) in ROWS {
-        let (program, _) = bytes.split_at(size.min(41));
-        writes(&rt, (hrp, version, program), 90, (want, b""));
+    for &(row, room, want) in WRITE_ROWS {
+        writes(&rt, row, room, want);
     }
 }
 
+// Texts of BIP-173, and some with characters of two bytes: the checksum, the text, and the number
+// and the place.
+const FAULT_ROWS: &[(u32, &[u8], (u32, usize))] = &[
+    (0, b"x1b4n0q5v", (4, LENGTH_BEFORE)),
+    (1, b"x1\xff", (2, LENGTH_BEFORE)),
+    (1, b"A12UEL5L", (0, LENGTH_BEFORE)),
+    (2, b"A12UEL5L", (33, 8)),
+    (1, b"1qzzfhee", (11, 0)),
+    (
+        1,
+        b"an84characterslonghumanreadablepartthatcontainsthenumber1andtheexcludedcharactersbio1569pvx",
+        (12, 84),
+    ),
+    (1, b"ab\xc3\xa9 1qqqqqq", (13, 2)),
+    (2, b"\x7f1axkwrx", (14, 0)),
+    (2, b"x1b4\xc3\xa90q5v", (21, 4)),
+    (1, b"x1b4n0q5v", (21, 2)),
+    (1, b"a!1qqQqqqq", (22, 5)),
+    (1, b"pzry9x0s0muk", (23, 12)),
+    (2, b"in1muywd", (32, 8)),
+];
+
+// The elements of `a` as a human-readable part, and of what stands behind the separator of
+// `a12uel5l` and of `a1lqfn3a`.
+const REMAINDER_ROWS: &[(u32, &[u8], (u32, u32))] = &[
+    (1, &[3, 0, 1, 10, 28, 25, 31, 20, 31], (0, 1)),
+    (2, &[3, 0, 1, 31, 0, 9, 19, 17, 29], (0, 0x2bc830a3)),
+    (2, &[3, 0, 1, 10, 28, 25, 31, 20, 31], (0, 1)),
+    (1, &[], (0, 1)),
+    (1, &[31], (0, 63)),
+    (0, &[], (4, u32::MAX)),
+    (3, &[1], (4, u32::MAX)),
+    (1, &[0, 32], (4, u32::MAX)),
+    (2, &[255, 1], (4, u32::MAX)),
+];
+
 #[test]
-fn places_of_faults(rt: HostRuntime) {
-    // Texts of BIP-173, and some with characters of two bytes.
-    const ROWS: &[(u32, &[u8], (u32, usize))] = &[
-        (0, b"x1b4n0q5v", (4, LENGTH_BEFORE)),
-        (1, b"x1\xff", (2, LENGTH_BEFORE)),
-        (1, b"A12UEL5L", (0, LENGTH_BEFORE)),
-        (2, b"A12UEL5L", (33, 8)),
-        (1, b"1qzzfhee", (11, 0)),
-        (
-            1,
-            b"an84characterslonghumanreadablepartthatcontainsthenumber1andtheexcludedcharactersbio1569pvx",
-            (12, 84),
-        ),
-        (1, b"ab\xc3\xa9 1qqqqqq", (13, 2)),
-        (2, b"\x7f1axkwrx", (14, 0)),
-        (2, b"x1b4\xc3\xa90q5v", (21, 4)),
-        (1, b"x1b4n0q5v", (21, 2)),
-        (1, b"a!1qqQqqqq", (22, 5)),
-        (1, b"pzry9x0s0muk", (23, 12)),
-        (2, b"in1muywd", (32, 8)),
-    ];
-    for &(checksum, text, want) in ROWS {
+fn places_and_remainders(rt: HostRuntime) {
+    for &(checksum, text, want) in FAULT_ROWS {
         let mut place = LENGTH_BEFORE;
         let number = bech32_fault(checksum, text, &mut place);
         same(&rt, &(number, place), &want);
     }
-}
-
-#[test]
-fn remainders_of_right_texts(rt: HostRuntime) {
-    // The elements of `a` as a human-readable part, and of what stands behind the separator of
-    // `a12uel5l` and of `a1lqfn3a`.
-    const ROWS: &[(u32, &[u8], (u32, u32))] = &[
-        (1, &[3, 0, 1, 10, 28, 25, 31, 20, 31], (0, 1)),
-        (2, &[3, 0, 1, 31, 0, 9, 19, 17, 29], (0, 0x2bc830a3)),
-        (2, &[3, 0, 1, 10, 28, 25, 31, 20, 31], (0, 1)),
-        (1, &[], (0, 1)),
-        (1, &[31], (0, 63)),
-        (0, &[], (4, u32::MAX)),
-        (3, &[1], (4, u32::MAX)),
-        (1, &[0, 32], (4, u32::MAX)),
-        (2, &[255, 1], (4, u32::MAX)),
-    ];
-    for &(checksum, values, want) in ROWS {
+    for &(checksum, values, want) in REMAINDER_ROWS {
         let mut residue = u32::MAX;
         let number = bech32_residue(checksum, values, &mut residue);
         same(&rt, &(number, residue), &want);
@@ -465,10 +414,13 @@ fn remainders_of_right_texts(rt: HostRuntime) {
 // What a text is mended to: the number, and on 0 the locations, the elements and the mended text.
 type Mended<'a> = (u32, &'a [usize], &'a [u8], &'a [u8]);
 
+// A checksum, a text and its erasures.
+type Mistyped<'a> = (u32, &'a [u8], &'a [usize]);
+
 // Mends a text by buffers of so many items.
 fn mends(
     rt: &impl Abort,
-    (checksum, text, erasures): (u32, &[u8], &[usize]),
+    (checksum, text, erasures): Mistyped<'_>,
     rooms: (usize, usize, usize),
     want: Mended<'_>,
 ) {
@@ -492,108 +444,95 @@ fn mends(
     answers(rt, number, (length, &mended), (want.0, want.3));
 }
 
-// Each text by buffers of more room and of as much, and not with less.
-#[test]
-fn mends_known_texts(rt: HostRuntime) {
-    // Made twice over and equal: by a reference model written from the definitions alone, and by
-    // the Rust crate bech32 0.12.0 with the differences of docs/rust/DIFFERENCES.md.
-    const ROWS: &[(u32, &[u8], &[usize], &[usize], &[u8], &[u8])] = &[
-        (1, b"a12uel5l", &[6], &[], &[], b"a12uel5l"),
-        (1, b"A12UEL5L", &[], &[], &[], b"a12uel5l"),
-        (1, b"a12uel5q", &[], &[0], &[31], b"a12uel5l"),
+const THREE_ERASED: Mistyped<'static> = (
+    1,
+    b"bc1q9r0srrr7xfkvy5l64qlydnw9re59gtzzwf5mdx",
+    &[37, 0, 20],
+);
+
+// What is mended, the rooms, and what it is mended to. Made twice over and equal: by a reference
+// model written from the definitions alone, and by the Rust crate bech32 0.12.0 with the
+// differences of docs/rust/DIFFERENCES.md.
+const MEND_ROWS: &[(Mistyped<'static>, (usize, usize, usize), Mended<'static>)] = &[
+    (
+        (1, b"a12uel5l", &[6]),
+        (0, 0, 8),
+        (0, &[], b"", b"a12uel5l"),
+    ),
+    (
+        (1, b"A12UEL5L", &[]),
+        (4, 4, 64),
+        (0, &[], b"", b"a12uel5l"),
+    ),
+    ((1, b"A12UEL5L", &[]), (4, 4, 7), (92, &[], b"", b"")),
+    (
+        (1, b"a12uel5q", &[]),
+        (1, 1, 8),
+        (0, &[0], &[31], b"a12uel5l"),
+    ),
+    ((1, b"a12uel5q", &[]), (0, 1, 8), (92, &[], b"", b"")),
+    (
+        (1, b"a12uel5q", &[3, 0, 3, 0]),
+        (4, 4, 64),
+        (0, &[3, 0], &[0, 31], b"a12uel5l"),
+    ),
+    (
+        (1, b"a12uel5q", &[0, 1, 2]),
+        (3, 3, 8),
+        (0, &[0, 1, 2], &[31, 0, 0], b"a12uel5l"),
+    ),
+    (
+        THREE_ERASED,
+        (4, 4, 64),
         (
-            1,
-            b"a12uel5q",
-            &[3, 0, 3, 0],
-            &[3, 0],
-            &[0, 31],
-            b"a12uel5l",
-        ),
-        (
-            1,
-            b"a12uel5q",
-            &[0, 1, 2],
-            &[0, 1, 2],
-            &[31, 0, 0],
-            b"a12uel5l",
-        ),
-        (
-            1,
-            b"bc1q9r0srrr7xfkvy5l64qlydnw9re59gtzzwf5mdx",
-            &[37, 0, 20],
+            0,
             &[37, 0, 20],
             &[24, 6, 17],
             b"bc1qar0srrr7xfkvy5l643lydnw9re59gtzzwf5mdq",
         ),
-        (
-            2,
-            b"1118GLKZVV",
-            &[6, 2, 5],
-            &[6, 2, 5],
-            &[20, 0, 0],
-            b"111nglkzvv",
-        ),
-        (
-            2,
-            b"1~12el7n3ndp4klznfk",
-            &[],
-            &[4],
-            &[5],
-            b"1~12el7n3ndp4k6znfk",
-        ),
-    ];
-    for &(checksum, text, erasures, locations, values, want) in ROWS {
-        let row = (checksum, text, erasures);
-        let (count, size) = (locations.len(), text.len());
-        mends(&rt, row, (4, 4, 64), (0, locations, values, want));
-        mends(&rt, row, (count, count, size), (0, locations, values, want));
-        mends(
-            &rt,
-            row,
-            (count, count, size.saturating_sub(1)),
-            (92, &[], b"", b""),
-        );
-        if count > 0 {
-            let less = count.saturating_sub(1);
-            mends(&rt, row, (less, count, size), (92, &[], b"", b""));
-            mends(&rt, row, (count, less, size), (92, &[], b"", b""));
-        }
-    }
-}
+    ),
+    (THREE_ERASED, (2, 3, 42), (92, &[], b"", b"")),
+    (THREE_ERASED, (3, 2, 42), (92, &[], b"", b"")),
+    (THREE_ERASED, (3, 3, 41), (92, &[], b"", b"")),
+    (
+        (2, b"1118GLKZVV", &[6, 2, 5]),
+        (3, 3, 10),
+        (0, &[6, 2, 5], &[20, 0, 0], b"111nglkzvv"),
+    ),
+    (
+        (2, b"1~12el7n3ndp4klznfk", &[]),
+        (4, 4, 64),
+        (0, &[4], &[5], b"1~12el7n3ndp4k6znfk"),
+    ),
+];
+
+// What is not mended, with buffers of no room.
+const REFUSED_MEND_ROWS: &[(Mistyped<'static>, u32)] = &[
+    ((0, b"\xff", &[]), 4),
+    ((3, b"a12uel5q", &[]), 4),
+    ((1, b"\xff", &[usize::MAX]), 2),
+    ((1, b"1qqqqqq", &[]), 11),
+    ((1, b" 1nwldj5", &[]), 14),
+    ((1, b"a12uel5l\r", &[]), 21),
+    ((2, b"pQ", &[]), 22),
+    ((2, b"qpzry", &[]), 23),
+    ((1, b"a1", &[0]), 32),
+    ((1, b"b12uel5l", &[]), 34),
+    ((2, b"a12uel5q", &[]), 34),
+    ((1, b"a12uel5q", &[1, 2]), 34),
+    ((1, b"a12uel5q", &[0, 1, 2, 3]), 34),
+    ((1, b"a12uel5q", &[6]), 34),
+    ((1, b"a12uel5q", &[0, 7]), 34),
+    ((1, b"a12uel5q", &[usize::MAX]), 34),
+    ((2, b"111pxa7d3mwg", &[11, 0, 1]), 34),
+];
 
 #[test]
-fn refuses_to_mend(rt: HostRuntime) {
-    const ROWS: &[(u32, &[u8], &[usize], u32)] = &[
-        (0, b"\xff", &[], 4),
-        (3, b"a12uel5q", &[], 4),
-        (1, b"\xff", &[usize::MAX], 2),
-        (1, b"1qqqqqq", &[], 11),
-        (1, b" 1nwldj5", &[], 14),
-        (1, b"a12uel5l\r", &[], 21),
-        (2, b"pQ", &[], 22),
-        (2, b"qpzry", &[], 23),
-        (1, b"a1", &[0], 32),
-        (1, b"b12uel5l", &[], 34),
-        (2, b"a12uel5q", &[], 34),
-        (1, b"a12uel5q", &[1, 2], 34),
-        (1, b"a12uel5q", &[0, 1, 2, 3], 34),
-        (1, b"a12uel5q", &[6], 34),
-        (1, b"a12uel5q", &[0, 7], 34),
-        (1, b"a12uel5q", &[usize::MAX], 34),
-        (2, b"111pxa7d3mwg", &[11, 0, 1], 34),
-    ];
-    for &(checksum, text, erasures, want) in ROWS {
-        mends(
-            &rt,
-            (checksum, text, erasures),
-            (4, 4, 64),
-            (want, &[], b"", b""),
-        );
-        mends(
-            &rt,
-            (checksum, text, erasures),
-            (0, 0, 0),
-            (want, &[], b"", b""),
-        );
+fn mends_known_texts(rt: HostRuntime) {
+    for &(mistyped, rooms, want) in MEND_ROWS {
+        mends(&rt, mistyped, rooms, want);
+    }
+    for &(mistyped, want) in REFUSED_MEND_ROWS {
+        mends(&rt, mistyped, (0, 0, 0), (want, &[], b"", b""));
     }
 }

@@ -32,10 +32,6 @@ fn puts(rt: &impl Abort, (number, length, buffer): Put, bytes: &[u8]) {
     assert_eq!(rt; found, (0, bytes.len(), true));
 }
 
-fn same_numbers(rt: &impl Abort, got: (u32, usize, usize), want: (u32, usize, usize)) {
-    assert_eq!(rt; got, want);
-}
-
 // What decoding a text gives: the human-readable part, and the bytes.
 fn decoded(text: &[u8]) -> (Put, Put) {
     let (mut hrp, mut bytes) = ([BEFORE; 24], [BEFORE; 24]);
@@ -104,13 +100,11 @@ fn puts_each_output(rt: HostRuntime) {
     let found = (version, bech32_version(), locations);
     let want = (2, 100, [3, 0, LENGTH_BEFORE, LENGTH_BEFORE]);
     assert_eq!(&rt; &found, &want);
-}
-
-#[test]
-fn tells_lengths_and_places(rt: HostRuntime) {
     let (mut hrp_length, mut length, mut place) = (LENGTH_BEFORE, LENGTH_BEFORE, LENGTH_BEFORE);
-    let number = bech32_check(2, b"a13qqqq9qz88s", &mut hrp_length, &mut length);
-    same_numbers(&rt, (number, hrp_length, length), (0, 1, 5));
-    let number = bech32_fault(1, b"x1b4n0q5v", &mut place);
-    same_numbers(&rt, (number, place, 0), (21, 2, 0));
+    let numbers = (
+        bech32_check(2, b"a13qqqq9qz88s", &mut hrp_length, &mut length),
+        bech32_fault(1, b"x1b4n0q5v", &mut place),
+    );
+    let found = (numbers, hrp_length, length, place);
+    assert_eq!(&rt; &found, &((0, 21), 1, 5, 2));
 }

@@ -39,6 +39,34 @@ const BYTES: [u8; 16] = [
 
 const STRING: &[u8] = b"ms19lcr0rp8neku3n97qvmlwns29mgaxc9uy6d28pu26vj00";
 
+const PAIR: &[u8] =
+    b"MS12NAMEA320ZYXWVUTSRQPNMLKJHGFEDCAXRPP870HKKQRMMS12NAMECACDEFGHJKLMNPQRSTUVWXYZ023FTR2GDZMPY6PN";
+
+const ONE: &[u8] = b"MS12NAMEA320ZYXWVUTSRQPNMLKJHGFEDCAXRPP870HKKQRM";
+
+// Two strings of BIP-93 give a third, and the secret: the share index, the texts and their lengths,
+// the room, and the number and the string.
+const DERIVE_ROWS: &[(u32, &[u8], &[usize], usize, (u32, &[u8]))] = &[
+    (
+        68,
+        PAIR,
+        &[48, 48],
+        48,
+        (0, b"ms12namedll4f8jlh4e5vdvuldlfxu2jhdnlsm97xvenrxeg"),
+    ),
+    (
+        115,
+        PAIR,
+        &[48, 48],
+        48,
+        (0, b"ms12names6xqguzttxkeqnjsjzv4jv3nz5k3kwgsphuh6evw"),
+    ),
+    (115, PAIR, &[48, 47], 48, (4, b"")),
+    (98, PAIR, &[48, 48], 48, (86, b"")),
+    (115, ONE, &[48], 48, (74, b"")),
+    (115, PAIR, &[48, 48], 47, (92, b"")),
+];
+
 // Each call puts each of its outputs into its own place.
 #[test]
 fn puts_each_output(rt: HostRuntime) {
@@ -65,37 +93,7 @@ fn puts_each_output(rt: HostRuntime) {
     let (said, _) = text.split_at(count.min(48));
     same(&rt, (number, said), (0, b"the checksum is wrong"));
     same(&rt, (codex32_version(), b""), (100, b""));
-}
-
-const PAIR: &[u8] =
-    b"MS12NAMEA320ZYXWVUTSRQPNMLKJHGFEDCAXRPP870HKKQRMMS12NAMECACDEFGHJKLMNPQRSTUVWXYZ023FTR2GDZMPY6PN";
-
-const ONE: &[u8] = b"MS12NAMEA320ZYXWVUTSRQPNMLKJHGFEDCAXRPP870HKKQRM";
-
-// Two strings of BIP-93 give a third, and the secret.
-#[test]
-fn derives_known_strings(rt: HostRuntime) {
-    const ROWS: &[(u32, &[u8], &[usize], usize, (u32, &[u8]))] = &[
-        (
-            68,
-            PAIR,
-            &[48, 48],
-            48,
-            (0, b"ms12namedll4f8jlh4e5vdvuldlfxu2jhdnlsm97xvenrxeg"),
-        ),
-        (
-            115,
-            PAIR,
-            &[48, 48],
-            48,
-            (0, b"ms12names6xqguzttxkeqnjsjzv4jv3nz5k3kwgsphuh6evw"),
-        ),
-        (115, PAIR, &[48, 47], 48, (4, b"")),
-        (98, PAIR, &[48, 48], 48, (86, b"")),
-        (115, ONE, &[48], 48, (74, b"")),
-        (115, PAIR, &[48, 48], 47, (92, b"")),
-    ];
-    for &(index, texts, lengths, room, want) in ROWS {
+    for &(index, texts, lengths, room, want) in DERIVE_ROWS {
         let (mut text, mut count) = ([0u8; 48], 0usize);
         let (front, _) = text.split_at_mut(room.min(48));
         let number = codex32_derive(index, texts, lengths, front, &mut count);

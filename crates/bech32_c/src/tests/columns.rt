@@ -25,35 +25,27 @@ fn texts(validity: &[u8]) -> Column<'_> {
     }
 }
 
-#[test]
-fn checks_rows_of_a_column(rt: HostRuntime) {
-    // The checksum, the validity, the first row, and what is returned and put. Behind the first row
-    // there are no six.
-    const ROWS: &[(u32, &[u8], usize, (u32, [u8; 6]))] = &[
-        (0, &[], 0, (0, [0, 0, 33, 0, 4, 4])),
-        (1, &[], 0, (0, [33, 0, 33, 33, 4, 4])),
-        (2, &[0b101101], 0, (0, [0, 1, 33, 0, 1, 4])),
-        (0, &[], 1, (4, [BEFORE; 6])),
-    ];
-    for &(checksum, validity, first, want) in ROWS {
-        let mut numbers = [BEFORE; 6];
-        let number = bech32_check_many(checksum, &texts(validity), first, &mut numbers);
-        same(&rt, &(number, numbers), &want);
-    }
-}
+// The checksum, the validity, the first row, and what is returned and put. Behind the first row
+// there are no six.
+const CHECK_ROWS: &[(u32, &[u8], usize, (u32, [u8; 6]))] = &[
+    (0, &[], 0, (0, [0, 0, 33, 0, 4, 4])),
+    (1, &[], 0, (0, [33, 0, 33, 33, 4, 4])),
+    (2, &[0b101101], 0, (0, [0, 1, 33, 0, 1, 4])),
+    (0, &[], 1, (4, [BEFORE; 6])),
+];
 
 // What is returned and put of six rows: the number and how many there are; the numbers, versions
 // and lengths of parts; and the offsets and the programs.
 type Put = ((u32, usize), [[u8; 6]; 3], ([u32; 7], [u8; 6]));
 
-// Decodes the rows with this much room for programs.
-fn decoded(hrp: &[u8], room: usize) -> Put {
+// Decodes the rows from the first of them on with this much room for programs.
+fn decoded(first: usize, hrp: &[u8], room: usize) -> Put {
     let (mut numbers, mut versions, mut lengths) = ([BEFORE; 6], [BEFORE; 6], [BEFORE; 6]);
     let (mut offsets, mut programs, mut done) = ([9u32; 7], [BEFORE; 6], LENGTH_BEFORE);
     let (front, _) = programs.split_at_mut(room.min(6));
     let number = bech32_segwit_decode_many(
         &texts(&[]),
-        0,
+        first,
         hrp,
         &mut numbers,
         &mut versions,
@@ -69,98 +61,90 @@ fn decoded(hrp: &[u8], room: usize) -> Put {
     )
 }
 
-#[test]
-fn decodes_rows_of_a_column(rt: HostRuntime) {
-    const ROWS: &[(&[u8], usize, Put)] = &[
+const DECODE_ROWS: &[(&[u8], usize, Put)] = &[
+    (
+        b"bc",
+        2,
         (
-            b"bc",
-            2,
-            (
-                (0, 6),
-                [
-                    [0, 33, 33, 49, 4, 4],
-                    [16, 0, 0, 0, 0, 0],
-                    [2, 0, 0, 0, 0, 0],
-                ],
-                ([0, 2, 2, 2, 2, 2, 2], *b"\x75\x1e\xee\xee\xee\xee"),
-            ),
+            (0, 6),
+            [
+                [0, 33, 33, 49, 4, 4],
+                [16, 0, 0, 0, 0, 0],
+                [2, 0, 0, 0, 0, 0],
+            ],
+            ([0, 2, 2, 2, 2, 2, 2], *b"\x75\x1e\xee\xee\xee\xee"),
         ),
+    ),
+    (
+        b"ABC",
+        6,
         (
-            b"ABC",
-            6,
-            (
-                (0, 6),
-                [
-                    [49, 33, 33, 0, 4, 4],
-                    [0, 0, 0, 2, 0, 0],
-                    [0, 0, 0, 3, 0, 0],
-                ],
-                ([0, 0, 0, 0, 3, 3, 3], *b"xyz\xee\xee\xee"),
-            ),
+            (0, 6),
+            [
+                [49, 33, 33, 0, 4, 4],
+                [0, 0, 0, 2, 0, 0],
+                [0, 0, 0, 3, 0, 0],
+            ],
+            ([0, 0, 0, 0, 3, 3, 3], *b"xyz\xee\xee\xee"),
         ),
+    ),
+    (
+        b"",
+        5,
         (
-            b"",
-            5,
-            (
-                (0, 6),
-                [
-                    [0, 33, 33, 0, 4, 4],
-                    [16, 0, 0, 2, 0, 0],
-                    [2, 0, 0, 3, 0, 0],
-                ],
-                ([0, 2, 2, 2, 5, 5, 5], *b"\x75\x1exyz\xee"),
-            ),
+            (0, 6),
+            [
+                [0, 33, 33, 0, 4, 4],
+                [16, 0, 0, 2, 0, 0],
+                [2, 0, 0, 3, 0, 0],
+            ],
+            ([0, 2, 2, 2, 5, 5, 5], *b"\x75\x1exyz\xee"),
         ),
+    ),
+    (
+        b"",
+        4,
         (
-            b"",
-            4,
-            (
-                (92, 3),
-                [
-                    [0, 33, 33, BEFORE, BEFORE, BEFORE],
-                    [16, 0, 0, BEFORE, BEFORE, BEFORE],
-                    [2, 0, 0, BEFORE, BEFORE, BEFORE],
-                ],
-                ([0, 2, 2, 2, 9, 9, 9], *b"\x75\x1e\xee\xee\xee\xee"),
-            ),
+            (92, 3),
+            [
+                [0, 33, 33, BEFORE, BEFORE, BEFORE],
+                [16, 0, 0, BEFORE, BEFORE, BEFORE],
+                [2, 0, 0, BEFORE, BEFORE, BEFORE],
+            ],
+            ([0, 2, 2, 2, 9, 9, 9], *b"\x75\x1e\xee\xee\xee\xee"),
         ),
-    ];
-    for &(hrp, room, want) in ROWS {
-        same(&rt, &decoded(hrp, room), &want);
-    }
-}
+    ),
+];
 
 // Bytes that are no human-readable part are refused before anything is written, after the rows:
-// there are not five from the third on.
+// there are not six from the third on.
+const REFUSED_ROWS: &[(usize, &[u8], u32)] = &[
+    (0, b"\xff", 2),
+    (0, b" bc", 14),
+    (0, b"bc\x7f", 14),
+    (0, b"b\xc3\xa9", 13),
+    (0, b"Bc", 15),
+    (0, &[b'q'; 84], 12),
+    (2, b"\xff", 4),
+];
+
 #[test]
-fn decodes_under_no_part_that_is_none(rt: HostRuntime) {
-    const ROWS: &[(&[u8], usize, u32)] = &[
-        (b"\xff", 0, 2),
-        (b" bc", 0, 14),
-        (b"bc\x7f", 0, 14),
-        (b"b\xc3\xa9", 0, 13),
-        (b"Bc", 0, 15),
-        (&[b'q'; 84], 0, 12),
-        (b"\xff", 2, 4),
-    ];
-    for &(hrp, first, want) in ROWS {
-        let (mut numbers, mut versions, mut lengths) = ([BEFORE; 5], [BEFORE; 5], [BEFORE; 5]);
-        let (mut offsets, mut programs, mut done) = ([9u32; 6], [BEFORE; 4], LENGTH_BEFORE);
-        let number = bech32_segwit_decode_many(
-            &texts(&[]),
-            first,
-            hrp,
-            &mut numbers,
-            &mut versions,
-            &mut lengths,
-            &mut offsets,
-            &mut programs,
-            &mut done,
+fn reads_rows_of_a_column(rt: HostRuntime) {
+    for &(checksum, validity, first, want) in CHECK_ROWS {
+        let mut numbers = [BEFORE; 6];
+        let number = bech32_check_many(checksum, &texts(validity), first, &mut numbers);
+        same(&rt, &(number, numbers), &want);
+    }
+    for &(hrp, room, want) in DECODE_ROWS {
+        same(&rt, &decoded(0, hrp, room), &want);
+    }
+    for &(first, hrp, want) in REFUSED_ROWS {
+        let want: Put = (
+            (want, LENGTH_BEFORE),
+            [[BEFORE; 6]; 3],
+            ([9; 7], [BEFORE; 6]),
         );
-        same(&rt, &(number, done), &(want, LENGTH_BEFORE));
-        same(&rt, &(numbers, versions), &([BEFORE; 5], [BEFORE; 5]));
-        same(&rt, &(lengths, programs), &([BEFORE; 5], [BEFORE; 4]));
-        same(&rt, &offsets, &[9; 6]);
+        same(&rt, &decoded(first, hrp, 6), &want);
     }
 }
 

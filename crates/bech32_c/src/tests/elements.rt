@@ -28,66 +28,45 @@ const KEY_BYTES: [u8; 32] = [
     0x0e, 0xbc, 0x1a, 0x4c, 0x11, 0x41, 0x67, 0x3e, 0x27, 0x94, 0x23, 0x4d, 0x86, 0xad, 0xdf, 0x4e,
 ];
 
-// Decodes the only text of its bytes into buffers with so much room for the bytes.
-fn decodes_only(rt: &impl Abort, checksum: u32, text: &[u8], room: usize, want: Parts<'_>) {
-    let (mut hrp, mut bytes) = ([BEFORE; 83], [BEFORE; 64]);
+// Decodes the only text of its bytes, or elements, into buffers with so much room for these.
+fn decodes(
+    rt: &impl Abort,
+    is_strict: bool,
+    (checksum, text): (u32, &[u8]),
+    room: usize,
+    want: Parts<'_>,
+) {
+    let (mut hrp, mut found) = ([BEFORE; 83], [BEFORE; 128]);
     let (mut hrp_count, mut count) = (LENGTH_BEFORE, LENGTH_BEFORE);
-    let (front, _) = bytes.split_at_mut(room.min(64));
-    let number = bech32_decode_strict(checksum, text, &mut hrp, &mut hrp_count, front, &mut count);
+    let (front, _) = found.split_at_mut(room.min(128));
+    let number = if is_strict {
+        bech32_decode_strict(checksum, text, &mut hrp, &mut hrp_count, front, &mut count)
+    } else {
+        bech32_decode_elements(checksum, text, &mut hrp, &mut hrp_count, front, &mut count)
+    };
     answers(rt, number, (hrp_count, &hrp), (want.0, want.1));
-    answers(rt, number, (count, &bytes), (want.0, want.2));
+    answers(rt, number, (count, &found), (want.0, want.2));
 }
 
-#[test]
-fn decodes_the_only_texts(rt: HostRuntime) {
-    const ROWS: &[(u32, &[u8], usize, Parts<'static>)] = &[
-        (1, KEY, 64, (0, b"npub", &KEY_BYTES)),
-        (2, b"A1LQFN3A", 64, (0, b"A", b"")),
-        (0, KEY, 64, (4, b"", b"")),
-        (1, b"\xff", 64, (2, b"", b"")),
-        (1, b"nqu", 64, (23, b"", b"")),
-        (2, KEY, 64, (33, b"", b"")),
-        (1, ACCOUNT_OF_MORE_BITS, 64, (44, b"", b"")),
-        (1, KEY_OF_OTHER_BITS, 64, (45, b"", b"")),
-        (2, PAYMENT, 64, (44, b"", b"")),
-        (1, &[b'1'; 1024], 64, (12, b"", b"")),
-        (1, KEY, 31, (92, b"", b"")),
-    ];
-    for &(checksum, text, room, want) in ROWS {
-        decodes_only(&rt, checksum, text, room, want);
-    }
-}
-
-// Decodes to elements with so much room for them.
-fn decodes(rt: &impl Abort, checksum: u32, text: &[u8], room: usize, want: Parts<'_>) {
-    let (mut hrp, mut elements) = ([BEFORE; 83], [BEFORE; 128]);
-    let (mut hrp_count, mut count) = (LENGTH_BEFORE, LENGTH_BEFORE);
-    let (front, _) = elements.split_at_mut(room.min(128));
-    let number = bech32_decode_elements(
-        checksum,
-        text,
-        &mut hrp,
-        &mut hrp_count,
-        front,
-        &mut count,
-    );
-    answers(rt, number, (hrp_count, &hrp), (want.0, want.1));
-    answers(rt, number, (count, &elements), (want.0, want.2));
-}
-
-#[test]
-fn decodes_elements(rt: HostRuntime) {
-    const ROWS: &[(u32, &[u8], usize, Parts<'static>)] = &[
-        (2, PAYMENT, 107, (0, b"sp", &ELEMENTS)),
-        (7, PAYMENT, 128, (4, b"", b"")),
-        (1, PAYMENT, 128, (33, b"", b"")),
-        (2, b"sp1", 128, (32, b"", b"")),
-        (2, PAYMENT, 106, (92, b"", b"")),
-    ];
-    for &(checksum, text, room, want) in ROWS {
-        decodes(&rt, checksum, text, room, want);
-    }
-}
+// Whether it is the only text of its bytes; the checksum and the text; the room; and the parts.
+const DECODE_ROWS: &[(bool, (u32, &[u8]), usize, Parts<'static>)] = &[
+    (true, (1, KEY), 32, (0, b"npub", &KEY_BYTES)),
+    (true, (2, b"A1LQFN3A"), 64, (0, b"A", b"")),
+    (true, (0, KEY), 64, (4, b"", b"")),
+    (true, (1, b"\xff"), 64, (2, b"", b"")),
+    (true, (1, b"nqu"), 64, (23, b"", b"")),
+    (true, (2, KEY), 64, (33, b"", b"")),
+    (true, (1, ACCOUNT_OF_MORE_BITS), 64, (44, b"", b"")),
+    (true, (1, KEY_OF_OTHER_BITS), 64, (45, b"", b"")),
+    (true, (2, PAYMENT), 64, (44, b"", b"")),
+    (true, (1, &[b'1'; 1024]), 64, (12, b"", b"")),
+    (true, (1, KEY), 31, (92, b"", b"")),
+    (false, (2, PAYMENT), 107, (0, b"sp", &ELEMENTS)),
+    (false, (7, PAYMENT), 128, (4, b"", b"")),
+    (false, (1, PAYMENT), 128, (33, b"", b"")),
+    (false, (2, b"sp1"), 128, (32, b"", b"")),
+    (false, (2, PAYMENT), 106, (92, b"", b"")),
+];
 
 // Encodes elements with so much room for the text: the number, the place, and the text.
 fn encodes(
@@ -103,18 +82,24 @@ fn encodes(
     answers(rt, number, (count, &text), (want, spelled));
 }
 
+// The checksum, the human-readable part and the elements; the room; and the number, the place and
+// the text.
+const ENCODE_ROWS: &[(u32, &[u8], &[u8], usize, (u32, usize, &[u8]))] = &[
+    (2, b"SP", &ELEMENTS, 116, (0, LENGTH_BEFORE, PAYMENT)),
+    (7, b"sp", b"\0", 128, (4, LENGTH_BEFORE, b"")),
+    (1, b"\xff", b"\0", 128, (2, LENGTH_BEFORE, b"")),
+    (1, b"", b"\xff", 128, (11, LENGTH_BEFORE, b"")),
+    (1, b"sp", b"\x1f\0\x20\xff", 128, (67, 2, b"")),
+    (1, b"a", &[32; 1016], 128, (51, LENGTH_BEFORE, b"")),
+    (1, b"sp", b"\x1f\0", 10, (92, LENGTH_BEFORE, b"")),
+];
+
 #[test]
-fn encodes_elements(rt: HostRuntime) {
-    const ROWS: &[(u32, &[u8], &[u8], usize, (u32, usize, &[u8]))] = &[
-        (2, b"SP", &ELEMENTS, 116, (0, LENGTH_BEFORE, PAYMENT)),
-        (7, b"sp", b"\0", 128, (4, LENGTH_BEFORE, b"")),
-        (1, b"\xff", b"\0", 128, (2, LENGTH_BEFORE, b"")),
-        (1, b"", b"\xff", 128, (11, LENGTH_BEFORE, b"")),
-        (1, b"sp", b"\x1f\0\x20\xff", 128, (67, 2, b"")),
-        (1, b"a", &[32; 1016], 128, (51, LENGTH_BEFORE, b"")),
-        (1, b"sp", b"\x1f\0", 10, (92, LENGTH_BEFORE, b"")),
-    ];
-    for &(checksum, hrp, elements, room, want) in ROWS {
+fn elements_both_ways(rt: HostRuntime) {
+    for &(is_strict, asked, room, want) in DECODE_ROWS {
+        decodes(&rt, is_strict, asked, room, want);
+    }
+    for &(checksum, hrp, elements, room, want) in ENCODE_ROWS {
         encodes(&rt, (checksum, hrp, elements), room, want);
     }
 }

@@ -11,38 +11,52 @@ fn says(rt: &impl Abort, number: u32, room: usize, want: (u32, &[u8])) {
     answers(rt, answer, (length, &buffer), want);
 }
 
+// A number; the room; and the number that is returned, and the sentence. Other numbers have none.
+const ROWS: &[(u32, usize, (u32, &[u8]))] = &[
+    (2, 100, (0, b"a text or a human-readable part is not UTF-8")),
+    (2, 43, (92, b"")),
+    (
+        4,
+        75,
+        (
+            0,
+            b"there are more than 32 texts, or their lengths do not add up to that of all",
+        ),
+    ),
+    (4, 74, (92, b"")),
+    (33, 100, (0, b"the checksum is wrong")),
+    (33, 20, (92, b"")),
+    (34, 24, (0, b"there is no nearest text")),
+    (77, 100, (0, b"the shares contradict each other")),
+    (
+        78,
+        58,
+        (
+            0,
+            b"there are fewer shares than the threshold, or more than 31",
+        ),
+    ),
+    (68, 100, (0, b"the random bytes are all equal")),
+    (81, 35, (0, b"the human-readable part is not `ms`")),
+    (92, 100, (0, b"a buffer is too small")),
+    (0, 100, (0, b"")),
+    (1, 0, (0, b"")),
+    (3, 100, (0, b"")),
+    (31, 0, (0, b"")),
+    (32, 100, (0, b"")),
+    (41, 0, (0, b"")),
+    (67, 100, (0, b"")),
+    (90, 0, (0, b"")),
+    (93, 100, (0, b"")),
+    (256, 0, (0, b"")),
+    (u32::MAX, 100, (0, b"")),
+];
+
 // A sentence is put where there is room for it, and nowhere else.
 #[test]
 fn says_sentences(rt: HostRuntime) {
-    const ROWS: &[(u32, &[u8])] = &[
-        (2, b"a text or a human-readable part is not UTF-8"),
-        (
-            4,
-            b"there are more than 32 texts, or their lengths do not add up to that of all",
-        ),
-        (33, b"the checksum is wrong"),
-        (34, b"there is no nearest text"),
-        (77, b"the shares contradict each other"),
-        (
-            78,
-            b"there are fewer shares than the threshold, or more than 31",
-        ),
-        (68, b"the random bytes are all equal"),
-        (81, b"the human-readable part is not `ms`"),
-        (92, b"a buffer is too small"),
-    ];
-    for &(number, sentence) in ROWS {
-        says(&rt, number, 100, (0, sentence));
-        says(&rt, number, sentence.len(), (0, sentence));
-        says(&rt, number, sentence.len().saturating_sub(1), (92, b""));
+    for &(number, room, want) in ROWS {
+        says(&rt, number, room, want);
     }
     same(&rt, &codex32_version(), &100);
-}
-
-#[test]
-fn says_nothing_of_other_numbers(rt: HostRuntime) {
-    for number in [0, 1, 3, 31, 32, 41, 67, 90, 93, 256, u32::MAX] {
-        says(&rt, number, 100, (0, b""));
-        says(&rt, number, 0, (0, b""));
-    }
 }

@@ -1,5 +1,4 @@
-use super::{BYTE_BEFORE, LENGTH_BEFORE, answers, has_front, same, written};
-use crate::recover::codex32_recover;
+use super::{BYTE_BEFORE, LENGTH_BEFORE, has_front, same, written};
 use crate::split::codex32_split;
 use std::process::Abort;
 
@@ -17,24 +16,27 @@ const RANDOM: [u8; 52] = [
     0x5d, 0x30, 0xd2, 0x8e,
 ];
 
-// What is split: the threshold, the identifier, the secret, and so many first ones of random bytes.
+// What is split: the threshold, the identifier, the secret, and random bytes.
 type Split<'a> = (u32, &'a [u8], &'a [u8], &'a [u8]);
 
-// Splits into so many shares, with a buffer of so many bytes. Where the number is 0, the length is
-// that of each text, and the texts are put, one behind another; else nothing is written.
+// Splits with so many of the random bytes into so many shares, with a buffer of so many bytes.
+// Where the number is 0, the length is that of each text, and the texts are put, one behind
+// another; else nothing is written.
 fn splits(
     rt: &impl Abort,
-    given: Split<'_>,
+    (threshold, identifier, secret, random): Split<'_>,
+    drawn: usize,
     (count, room): (usize, usize),
     (want, each, texts): (u32, usize, &[u8]),
 ) {
     let (mut length, mut buffer) = (LENGTH_BEFORE, [BYTE_BEFORE; ROOM]);
     let (front, _) = buffer.split_at_mut(room.min(ROOM));
+    let (drawn, _) = random.split_at(drawn.min(random.len()));
     let number = codex32_split(
-        given.0,
-        given.1,
-        given.2,
-        given.3,
+        threshold,
+        identifier,
+        secret,
+        drawn,
         count,
         front,
         &mut length,
@@ -51,31 +53,6 @@ const OF_TWO: &[u8] =
 const OF_THREE: &[u8] =
     b"ms13testaanjvzsjql4wnx3rjvmsaj6s329mmu2u2wlyxv0nms13testcnj0jdsua5au042r82egg6nasjwd4jdk4cupvgvlms13testd7eqq992r5wsehymeaa5098cu9a4qq800zghwcaums13teste2h5xt644g5wkhg8dd5n23apcxecgz3gs4y5zkpg";
 
-#[test]
-fn splits_known_secrets(rt: HostRuntime) {
-    const ROWS: &[((u32, &[u8]), usize, (usize, usize), (u32, usize, &[u8]))] = &[
-        ((2, b"test"), 26, (3, ROOM), (0, 48, OF_TWO)),
-        ((2, b"TEST"), 26, (3, 144), (0, 48, OF_TWO)),
-        ((2, b"test"), 26, (3, 143), (92, LENGTH_BEFORE, b"")),
-        ((3, b"test"), 52, (4, 192), (0, 48, OF_THREE)),
-    ];
-    for &((threshold, identifier), drawn, rooms, want) in ROWS {
-        let (random, _) = RANDOM.split_at(drawn.min(52));
-        splits(&rt, (threshold, identifier, &SECRET, random), rooms, want);
-    }
-}
-
-// The bytes 0, 7, 14 and so on, or by another step.
-fn bytes_by(step: u8) -> [u8; 103] {
-    let mut bytes = [0; 103];
-    let mut next = 0u8;
-    for byte in bytes.iter_mut() {
-        *byte = next;
-        next = next.wrapping_add(step);
-    }
-    bytes
-}
-
 // The secret but for its first byte, and 45 random bytes.
 const FIFTEEN: [u8; 15] = [
     0x80, 0x8e, 0x09, 0x6b, 0x35, 0xb2, 0x09, 0xca, 0x12, 0x13, 0x2b, 0x26, 0x46, 0x62, 0xa5,
@@ -87,165 +64,108 @@ const FORTY_FIVE: [u8; 45] = [
     0x1c, 0xbd, 0x74, 0x1d, 0xbc, 0xcf, 0xd5, 0x4a, 0x23, 0xa7, 0xea, 0x79, 0xe8,
 ];
 
-// The shares are those of a reference model.
-#[test]
-fn splits_a_long_secret(rt: HostRuntime) {
-    let texts: &[u8] =
-        b"ms12testaq8w4ur23clxd5mzfsh79vn6pg0kaytjeq8w4ur23clxd5mzfsh79vn6pg0kaytjeq8w4ur23clxd5mzfsh79vn6pg0kaytjeq8w4ur20el3qrftg8732vnms12testcqemv3nue4nlg7p9fkyrdnzvrrwj7df4z8gqmd2u69z2lnc9k34c27wm36lcw3vzaeeytqgt9vnq005jygyqazhmwawdeujz77gluu3u8qqvqwjusp4xurm";
-    let (secrets, random) = (bytes_by(1), bytes_by(7));
-    let (secret, _) = secrets.split_at(64);
-    let given: Split<'_> = (2, b"test", secret, &random);
-    splits(&rt, given, (2, ROOM), (0, 127, texts));
-}
+// The bytes from 0 on, and those of which each is 7 more; and the shares, of a reference model.
+const LONG_SECRET: [u8; 64] = [
+    0x00, 0x01, 0x02, 0x03, 0x04, 0x05, 0x06, 0x07, 0x08, 0x09, 0x0a, 0x0b, 0x0c, 0x0d, 0x0e, 0x0f,
+    0x10, 0x11, 0x12, 0x13, 0x14, 0x15, 0x16, 0x17, 0x18, 0x19, 0x1a, 0x1b, 0x1c, 0x1d, 0x1e, 0x1f,
+    0x20, 0x21, 0x22, 0x23, 0x24, 0x25, 0x26, 0x27, 0x28, 0x29, 0x2a, 0x2b, 0x2c, 0x2d, 0x2e, 0x2f,
+    0x30, 0x31, 0x32, 0x33, 0x34, 0x35, 0x36, 0x37, 0x38, 0x39, 0x3a, 0x3b, 0x3c, 0x3d, 0x3e, 0x3f,
+];
+
+const LONG_RANDOM: [u8; 103] = [
+    0x00, 0x07, 0x0e, 0x15, 0x1c, 0x23, 0x2a, 0x31, 0x38, 0x3f, 0x46, 0x4d, 0x54, 0x5b, 0x62, 0x69,
+    0x70, 0x77, 0x7e, 0x85, 0x8c, 0x93, 0x9a, 0xa1, 0xa8, 0xaf, 0xb6, 0xbd, 0xc4, 0xcb, 0xd2, 0xd9,
+    0xe0, 0xe7, 0xee, 0xf5, 0xfc, 0x03, 0x0a, 0x11, 0x18, 0x1f, 0x26, 0x2d, 0x34, 0x3b, 0x42, 0x49,
+    0x50, 0x57, 0x5e, 0x65, 0x6c, 0x73, 0x7a, 0x81, 0x88, 0x8f, 0x96, 0x9d, 0xa4, 0xab, 0xb2, 0xb9,
+    0xc0, 0xc7, 0xce, 0xd5, 0xdc, 0xe3, 0xea, 0xf1, 0xf8, 0xff, 0x06, 0x0d, 0x14, 0x1b, 0x22, 0x29,
+    0x30, 0x37, 0x3e, 0x45, 0x4c, 0x53, 0x5a, 0x61, 0x68, 0x6f, 0x76, 0x7d, 0x84, 0x8b, 0x92, 0x99,
+    0xa0, 0xa7, 0xae, 0xb5, 0xbc, 0xc3, 0xca,
+];
+
+const LONG_SHARES: &[u8] =
+    b"ms12testaq8w4ur23clxd5mzfsh79vn6pg0kaytjeq8w4ur23clxd5mzfsh79vn6pg0kaytjeq8w4ur23clxd5mzfsh79vn6pg0kaytjeq8w4ur20el3qrftg8732vnms12testcqemv3nue4nlg7p9fkyrdnzvrrwj7df4z8gqmd2u69z2lnc9k34c27wm36lcw3vzaeeytqgt9vnq005jygyqazhmwawdeujz77gluu3u8qqvqwjusp4xurm";
+
+// The same byte everywhere but at one place: in its highest bits, or in its lowest.
+const FIRST_DIFFERS: [u8; 26] = [
+    0x20, 0x00, 0x00, 0x00, 0x00, 0x00, 0x00, 0x00, 0x00, 0x00, 0x00, 0x00, 0x00, 0x00, 0x00, 0x00,
+    0x00, 0x00, 0x00, 0x00, 0x00, 0x00, 0x00, 0x00, 0x00, 0x00,
+];
+
+const SECOND_DIFFERS: [u8; 26] = [
+    0x00, 0x40, 0x00, 0x00, 0x00, 0x00, 0x00, 0x00, 0x00, 0x00, 0x00, 0x00, 0x00, 0x00, 0x00, 0x00,
+    0x00, 0x00, 0x00, 0x00, 0x00, 0x00, 0x00, 0x00, 0x00, 0x00,
+];
+
+const LAST_DIFFERS: [u8; 26] = [
+    0x07, 0x07, 0x07, 0x07, 0x07, 0x07, 0x07, 0x07, 0x07, 0x07, 0x07, 0x07, 0x07, 0x07, 0x07, 0x07,
+    0x07, 0x07, 0x07, 0x07, 0x07, 0x07, 0x07, 0x07, 0x07, 0x06,
+];
+
+// What is split, with so many of the random bytes; the number of shares, and the room; and the
+// number, the length of each text, and the texts.
+const SPLIT_ROWS: &[(Split<'static>, usize, (usize, usize), (u32, usize, &[u8]))] = &[
+    (
+        (2, b"test", &SECRET, &RANDOM),
+        26,
+        (3, ROOM),
+        (0, 48, OF_TWO),
+    ),
+    (
+        (2, b"TEST", &SECRET, &RANDOM),
+        26,
+        (3, 144),
+        (0, 48, OF_TWO),
+    ),
+    (
+        (3, b"test", &SECRET, &RANDOM),
+        52,
+        (4, 192),
+        (0, 48, OF_THREE),
+    ),
+    (
+        (2, b"test", &LONG_SECRET, &LONG_RANDOM),
+        103,
+        (2, ROOM),
+        (0, 127, LONG_SHARES),
+    ),
+];
 
 // Each refusal, in their order: of sets, of secrets, and of numbers of shares and random bytes.
+// Random bytes that nobody filled are refused, with room and without; of those whose lowest five
+// bits are all the same, or of which the first or the last differs, this is not told. The number of
+// random bytes is tested before, and the room last.
+const REFUSED_ROWS: &[(Split<'static>, usize, (usize, usize), u32)] = &[
+    ((1, b"tes", &[], &RANDOM), 0, (0, 0), 83),
+    ((10, b"tes", &[], &RANDOM), 0, (0, 0), 83),
+    ((0, b"tes", &[], &RANDOM), 0, (0, 0), 85),
+    ((2, b"Test", &[], &RANDOM), 0, (0, 0), 85),
+    ((0, b"test", &[], &RANDOM), 0, (0, 0), 84),
+    ((2, b"test", &FIFTEEN, &RANDOM), 0, (0, 0), 56),
+    ((2, b"test", &FORTY_FIVE, &RANDOM), 0, (0, 0), 56),
+    ((2, b"test", &SECRET, &RANDOM), 0, (1, 0), 78),
+    ((2, b"test", &SECRET, &RANDOM), 0, (32, 0), 78),
+    ((2, b"test", &SECRET, &RANDOM), 0, (usize::MAX, 0), 78),
+    ((2, b"test", &SECRET, &RANDOM), 25, (2, 0), 66),
+    ((2, b"test", &SECRET, &RANDOM), 27, (2, 0), 66),
+    ((2, b"test", &SECRET, &[0; 25]), 25, (3, ROOM), 66),
+    ((2, b"test", &SECRET, &[0; 52]), 52, (3, ROOM), 66),
+    ((2, b"test", &SECRET, &[0; 26]), 26, (3, ROOM), 68),
+    ((2, b"test", &SECRET, &[0; 26]), 26, (3, 0), 68),
+    ((2, b"test", &SECRET, &[0x55; 26]), 26, (3, ROOM), 68),
+    ((2, b"test", &SECRET, &[255; 26]), 26, (3, 143), 68),
+    ((2, b"test", &SECRET, &FIRST_DIFFERS), 26, (3, 143), 92),
+    ((2, b"test", &SECRET, &SECOND_DIFFERS), 26, (3, 143), 92),
+    ((2, b"test", &SECRET, &LAST_DIFFERS), 26, (3, 143), 92),
+    ((2, b"test", &SECRET, &RANDOM), 26, (3, 143), 92),
+    ((2, b"test", &SECRET, &RANDOM), 26, (31, 0), 92),
+];
+
 #[test]
-fn refuses_splits(rt: HostRuntime) {
-    const ROWS: &[(u32, &[u8], &[u8], (usize, usize), u32)] = &[
-        (1, b"tes", &[], (0, 0), 83),
-        (10, b"tes", &[], (0, 0), 83),
-        (0, b"tes", &[], (0, 0), 85),
-        (2, b"Test", &[], (0, 0), 85),
-        (0, b"test", &[], (0, 0), 84),
-        (2, b"test", &FIFTEEN, (0, 0), 56),
-        (2, b"test", &FORTY_FIVE, (0, 0), 56),
-        (2, b"test", &SECRET, (1, 0), 78),
-        (2, b"test", &SECRET, (32, 0), 78),
-        (2, b"test", &SECRET, (usize::MAX, 0), 78),
-        (2, b"test", &SECRET, (2, 25), 66),
-        (2, b"test", &SECRET, (2, 27), 66),
-        (2, b"test", &SECRET, (31, 26), 92),
-    ];
-    for &(threshold, identifier, secret, (count, drawn), want) in ROWS {
-        let (random, _) = RANDOM.split_at(drawn.min(52));
-        let given = (threshold, identifier, secret, random);
-        splits(&rt, given, (count, 0), (want, LENGTH_BEFORE, b""));
+fn splits_known_secrets(rt: HostRuntime) {
+    for &(given, drawn, asked, want) in SPLIT_ROWS {
+        splits(&rt, given, drawn, asked, want);
     }
-}
-
-// The same byte everywhere but at one place.
-fn equal_but_one(each: u8, place: usize, other: u8) -> [u8; 52] {
-    let mut random = [each; 52];
-    random[place.min(51)] = other;
-    random
-}
-
-// Random bytes that nobody filled are refused, with room and without, and nothing is written. Of
-// those whose lowest five bits are all the same, or of which the first or the last differs, this is
-// not told. The number of random bytes is tested before.
-#[test]
-fn refuses_random_bytes_that_are_all_equal(rt: HostRuntime) {
-    const ROWS: &[(u8, usize, u8, usize, usize, u32)] = &[
-        (0, 0, 0, 26, ROOM, 68),
-        (0, 0, 0, 26, 0, 68),
-        (0x55, 0, 0x55, 26, ROOM, 68),
-        (255, 0, 255, 26, 143, 68),
-        (0, 0, 0, 25, ROOM, 66),
-        (0, 0, 0, 52, ROOM, 66),
-        (0, 0, 32, 26, 143, 92),
-        (0, 1, 64, 26, 143, 92),
-        (7, 25, 6, 26, 143, 92),
-    ];
-    for &(each, place, other, drawn, room, want) in ROWS {
-        let random = equal_but_one(each, place, other);
-        let (random, _) = random.split_at(drawn.min(52));
-        let given: Split<'_> = (2, b"test", &SECRET, random);
-        splits(&rt, given, (3, room), (want, LENGTH_BEFORE, b""));
-    }
-}
-
-// The bytes that texts give, in a buffer of so many.
-fn recovers(rt: &impl Abort, texts: &[u8], lengths: &[usize], room: usize, want: u32) {
-    let (mut length, mut buffer) = (LENGTH_BEFORE, [BYTE_BEFORE; ROOM]);
-    let (front, _) = buffer.split_at_mut(room.min(ROOM));
-    let number = codex32_recover(texts, lengths, front, &mut length);
-    answers(rt, number, (length, &buffer), (want, &SECRET));
-}
-
-const PAIR: &[u8] =
-    b"MS12NAMEA320ZYXWVUTSRQPNMLKJHGFEDCAXRPP870HKKQRMMS12NAMECACDEFGHJKLMNPQRSTUVWXYZ023FTR2GDZMPY6PN";
-
-// Of what is split above, each two of three, all three, and three of four; and of BIP-93 its second
-// example.
-#[test]
-fn recovers_known_secrets(rt: HostRuntime) {
-    const ROWS: &[(&[u8], &[usize], usize, u32)] = &[
-        (PAIR, &[48, 48], ROOM, 0),
-        (PAIR, &[48, 48], 16, 0),
-        (PAIR, &[48, 48], 15, 92),
-        (
-            b"ms12testaanjvzsjql4wnx3rjvmsaj6s329vw4xnw2zhpf2lms12testcrmyzxxgv99pjwpzje5flkkqswrs3rg7dsphgkxs",
-            &[48, 48],
-            16,
-            0,
-        ),
-        (
-            b"ms12testdxq6clc5we6h747wjnzp805luhzdcajsev4hllyxms12testaanjvzsjql4wnx3rjvmsaj6s329vw4xnw2zhpf2l",
-            &[48, 48],
-            16,
-            0,
-        ),
-        (
-            b"ms12testcrmyzxxgv99pjwpzje5flkkqswrs3rg7dsphgkxsms12testdxq6clc5we6h747wjnzp805luhzdcajsev4hllyx",
-            &[48, 48],
-            16,
-            0,
-        ),
-        (
-            b"ms12testaanjvzsjql4wnx3rjvmsaj6s329vw4xnw2zhpf2lms12testcrmyzxxgv99pjwpzje5flkkqswrs3rg7dsphgkxsms12testdxq6clc5we6h747wjnzp805luhzdcajsev4hllyx",
-            &[48, 48, 48],
-            16,
-            0,
-        ),
-        (
-            b"ms13teste2h5xt644g5wkhg8dd5n23apcxecgz3gs4y5zkpgms13testcnj0jdsua5au042r82egg6nasjwd4jdk4cupvgvlms13testd7eqq992r5wsehymeaa5098cu9a4qq800zghwcau",
-            &[48, 48, 48],
-            16,
-            0,
-        ),
-    ];
-    for &(texts, lengths, room, want) in ROWS {
-        recovers(&rt, texts, lengths, room, want);
-    }
-}
-
-// Each refusal of texts, in their order, and of lengths. Some texts are those of a reference model.
-#[test]
-fn recovers_nothing_of_others(rt: HostRuntime) {
-    const ROWS: &[(&[u8], &[usize], u32)] = &[
-        (PAIR, &[], 4),
-        (PAIR, &[48, 47], 4),
-        (b"", &[0; 33], 4),
-        (b"", &[], 74),
-        (b"\xff", &[1], 2),
-        (PAIR, &[47, 49], 82),
-        (
-            b"MS12NAMEA320ZYXWVUTSRQPNMLKJHGFEDCAXRPP870HKKQRM",
-            &[48],
-            74,
-        ),
-        (
-            b"ms12p28uckv28dt07kx0afygy97k6gqx4dux2vfcte2u8mfkms19p28f2x3q585nh7wq0lvdw3me4ejshqn23z773udhvpzp",
-            &[48, 48],
-            75,
-        ),
-        (
-            b"ms10uvxascud86jrlpantlanp8ravpa4ze65recqytmhdn87ms10uvxastkxgh5ekgtgldhf5l6cfsjxyaqym80me2rj4mgw",
-            &[48, 48],
-            76,
-        ),
-        (
-            b"ms12seffkx9wjn6dmy39azwsg54lwgymk9es0zjfq0sdm7mxms12seff6yyl4ae5zfszecmx9x8q86jprh94y89zt5xstl7gms12seffdaraz23vm92qwzplun324shjge80vj7c80qy5het",
-            &[48, 48, 48],
-            77,
-        ),
-        (
-            b"ms10testsq3pltvct4589s7dwvy9vuyxd49xa9xlxkzesmpcdeh4",
-            &[52],
-            87,
-        ),
-    ];
-    for &(texts, lengths, want) in ROWS {
-        recovers(&rt, texts, lengths, 0, want);
+    for &(given, drawn, asked, want) in REFUSED_ROWS {
+        splits(&rt, given, drawn, asked, (want, LENGTH_BEFORE, b""));
     }
 }
