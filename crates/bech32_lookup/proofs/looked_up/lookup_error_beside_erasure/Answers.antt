@@ -9,17 +9,17 @@ use Rattle.bech32_lookup.proofs.Lawful.{only_lawful}
 use Rattle.bech32_lookup.proofs.Trimmed.{left_of}
 use Rattle.bech32_lookup.proofs.looked_up.lookup_error_beside_erasure.Goals as goal
 
-pub returns-in-NoTable-in-Some : goal.returns-in-NoTable-in-Some
-returns-in-NoTable-in-Some g c =
+pub returns-in-Some-alone_at : goal.returns-in-Some-alone_at
+returns-in-Some-alone_at g c =
     let code = g.Ck.Checksum.code in
     let residue = c.args.residue.now in
     let erasure : ℕ = c.args.erasure in
-    let value : Fe32 = c.in-Some-in-NoTable.value in
+    let value : Fe32 = c.in-Some-alone_at.value in
     let apart = apart_inside g.Ck.CorrectionField.Extension.embed g.Ck.CorrectionField.Extension.retract g.met.Ck.CorrectionField.Extension.retract_law in
     let size : length code.target ≡ length code.generator =
     ap (λ (k : Code). length k.target) g.met.Ck.Checksum.code_law ∙ length-tabulate g.Ck.Checksum.CHECKSUM_LENGTH _ ∙ sym g.met.Ck.Checksum.degree_law in
     let inside = one_erasure c.args.erasure c.args.window (omega (arith, c.if-erasure-window.false)) in
-    let leaves = left_of code.generator c.in-Some.list.now residue ((erasure, value) ∷ []) (rw c.in-Some.is at c.trimmed.ensures) (rw c.in-Some-in-NoTable.is at c.alone_at.ensures) in (
+    let leaves = left_of code.generator c.in-Some.list.now residue ((erasure, value) ∷ []) (rw c.in-Some.is at c.trimmed.ensures) (rw c.in-Some-alone_at.is at c.alone_at.ensures) in (
       inside,
       subst (λ (l : List (ℕ × Fe32)). IsOnlyListing code g.Ck.Checksum.bound (record { residue = residue; window = c.args.window; erasures = erasure ∷ [] }) l) (sym c.of_one.ensures)
           (only_lawful g.met.Ck.CorrectionField.Arithmetic.laws g.met.Ck.CorrectionField.LocatorField.embeds_law apart code
