@@ -28,7 +28,7 @@ fn proposes(
     number
 }
 
-// The same with this many bytes of memory, twice, and all of them come back.
+// The same with `size` bytes of memory, twice; all of them come back.
 fn proposes_within(
     rt: &impl Abort,
     alloc: Global,
