@@ -150,7 +150,16 @@ const ROWS: &[((&[u8], bool), usize, usize, u32, &[u8])] = &[
     ((WORSE, true), STATED, 160, 34, b""),
     ((WRONG, true), 47, 160, 91, b""),
     ((b"Ms1?", true), 0, 160, 22, b""),
-    ((NEAREST, true), 0, 160, 82, b""),
+    (
+        (
+            b"MS12NAMEA320ZYXWVUTSRQPNMLKJHGFEDCAXRPP870HKKQRMMS12NAMECACDEFGHJKLMNPQRSTUVWXYZ023FTR2GDZMPY6PN",
+            true,
+        ),
+        0,
+        160,
+        82,
+        b"",
+    ),
     ((b"\xff", true), 0, 160, 2, b""),
 ];
 
