@@ -236,10 +236,10 @@ fn long_texts(rt: HostRuntime) {
     let mut longer = [b'q'; 7090];
     longer[1] = b'1';
     checks(&rt, 4, &longer, (31, 1));
-    let (longer, _) = longer.split_at(1024);
-    checks(&rt, 2, longer, (31, 1));
-    decodes(&rt, longer, (83, 634), (31, b"", b""));
-    mends(&rt, (2, longer, &[]), (4, 4, 64), (31, &[], b"", b""));
+    let (above, _) = longer.split_at(1024);
+    checks(&rt, 2, above, (31, 1));
+    decodes(&rt, above, (83, 634), (31, b"", b""));
+    mends(&rt, (2, above, &[]), (4, 4, 64), (31, &[], b"", b""));
 }
 
 // What an address is read as: the number, and on 0 the human-readable part, the version and the

@@ -28,7 +28,7 @@ pub(crate) enum Search {
     DescriptorsOfTwo,
 }
 
-// The number of bytes that `include/bech32.h` states, or fewer, for a text of this many.
+// The bytes of memory that `include/bech32.h` states for a call, or fewer.
 fn stated(search: Search, text: &[u8]) -> usize {
     match search {
         Search::Near(_, _, _) => 16384 + 8 * text.len().min(1023),
@@ -40,7 +40,7 @@ fn stated(search: Search, text: &[u8]) -> usize {
     }
 }
 
-// The number that the call returns. What it does not list is as it was.
+// Makes the call, and returns its number. Some calls have no kinds, or no places.
 fn number_of(
     search: Search,
     text: &[u8],
@@ -96,7 +96,7 @@ fn lists(rt: &impl Abort, number: u32, found: Listed<'_>, listed: Listed<'_>) {
     same(rt, &holds, &(want.0, true, true));
 }
 
-// The number that a call returns with so much room. Where it is 0 or 92, this is listed.
+// Makes the call with these rooms, and returns its number. Where that is 0 or 92, this is listed.
 fn searched(
     rt: &impl Abort,
     memory: &mut Memory,
@@ -118,7 +118,7 @@ fn searched(
     number
 }
 
-// The same with so many bytes of memory, twice, and all of them come back.
+// The same with `size` bytes of memory, twice; all of them come back.
 fn searched_within(
     rt: &impl Abort,
     alloc: Global,
@@ -136,7 +136,7 @@ fn searched_within(
 // A call and its text; the rooms; the number that it returns, and what it lists.
 pub(crate) type Row<'a> = ((Search, &'a [u8]), Rooms, u32, Listed<'a>);
 
-// Makes each call with the memory that is stated.
+// Makes each call with the stated memory.
 pub(crate) fn list_each(rt: &impl Abort, alloc: Global, rows: &[Row<'_>]) {
     for &(asked, rooms, want, listed) in rows {
         let size = stated(asked.0, asked.1);

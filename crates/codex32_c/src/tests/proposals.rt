@@ -28,7 +28,7 @@ fn proposes(
     number
 }
 
-// The same with this many bytes of memory, twice, and all of them come back.
+// The same with `size` bytes of memory, twice; all of them come back.
 fn proposes_within(
     rt: &impl Abort,
     alloc: Global,
@@ -150,7 +150,16 @@ const ROWS: &[((&[u8], bool), usize, usize, u32, &[u8])] = &[
     ((WORSE, true), STATED, 160, 34, b""),
     ((WRONG, true), 47, 160, 91, b""),
     ((b"Ms1?", true), 0, 160, 22, b""),
-    ((NEAREST, true), 0, 160, 82, b""),
+    (
+        (
+            b"MS12NAMEA320ZYXWVUTSRQPNMLKJHGFEDCAXRPP870HKKQRMMS12NAMECACDEFGHJKLMNPQRSTUVWXYZ023FTR2GDZMPY6PN",
+            true,
+        ),
+        0,
+        160,
+        82,
+        b"",
+    ),
     ((b"\xff", true), 0, 160, 2, b""),
 ];
 
