@@ -1,5 +1,5 @@
 use Rattle.std.proofs.Common.{rules, ◌≡◌, ◌∙◌, ℕ, List, [], subst, sym, arith}
-use Rattle.std.specs.Prelude.{IfOk}
+use Rattle.std.specs.Prelude.{IfOk, None}
 use Rattle.bech32_lookup.specs.Question.{IsAnswerTo}
 use Rattle.bech32_lookup.proofs.OneError.{empty}
 use Rattle.bech32_correction.proofs.given.listing_below.Goals as goal
@@ -53,3 +53,8 @@ returns-then-most-le3-clause-answer g c =
 pub returns-then-erased-most-clause-answer : goal.returns-then-erased-most-clause-answer
 returns-then-erased-most-clause-answer g c = λ errors explains.
     omega (arith, explains.few, c.if-erased-most.true, c.len-erased.ensures, c.bound-most.ensures)
+
+pub returns-in-Absent-clause-answer : goal.returns-in-Absent-clause-answer
+returns-in-Absent-clause-answer g c =
+    subst (λ (s : List ℕ). IsAnswerTo g.Ck.Checksum.code g.Ck.Checksum.bound (record { residue = c.args.residue.now; window = c.args.window; erasures = s }) None)
+    c.as_slice.ensures (rw c.in-Absent.is at c.in_ok-listing.ensures.answer)
