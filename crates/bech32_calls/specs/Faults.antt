@@ -4,7 +4,10 @@ use Rattle.std.specs.Str.{IsUtf8}
 use Rattle.bech32_hrp.specs.Hrp.{hrp_refusal}
 use Rattle.bech32_decode.specs.Text.{text_refusal}
 use Rattle.bech32_decode.specs.declared.bytes.BytesError.{BytesError}
-use Rattle.bech32_decode.specs.declared.bytes.BytesError.TheVariants.{NotUtf8 as NoText, Text as Fault}
+use Rattle.bech32_decode.specs.declared.bytes.BytesError.TheVariants.{
+  NotUtf8 as NoText,
+  Text as Fault,
+}
 use Rattle.bech32_numbers.specs.Refused.{IsNumberBy}
 use Rattle.bech32_calls.specs.Numbers.{number_of}
 use Rattle.bech32_calls.specs.declared.refusal.Refusal.{Refusal}

@@ -10,7 +10,8 @@ use Rattle.bech32_refusals.specs.SegwitRules.{key_hash_length, script_hash_lengt
 -- 32 (BIP-341, Script validation rules)
 abbrev pub IsFormInUse : Fe32 → List ℕ → Type 0
 IsFormInUse version program =
-    ((value version ≡ 0) × ((length program ≡ key_hash_length) ⊎ (length program ≡ script_hash_length)))
+    ((value version ≡ 0)
+    × ((length program ≡ key_hash_length) ⊎ (length program ≡ script_hash_length)))
     ⊎ ((value version ≡ 1) × (length program ≡ 32))
 
 -- the text is a segwit address, of a form in use

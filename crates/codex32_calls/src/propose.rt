@@ -56,7 +56,8 @@ fn proposed_in<A: Allocator + Copy>(
 ) -> Result<Option<String<A>>, Codex32Error>
     ensures value { IfOk result (λ answer. MatchOption answer
         ((nearest : List ℕ) → IsNearest kind text.now nearest → ⊥)
-        (λ s. IsNearest kind text.now (string_bytes s) × (length (string_bytes s) ≤ max_long_length))) }
+        (λ s. IsNearest kind text.now (string_bytes s)
+        × (length (string_bytes s) ≤ max_long_length))) }
     ensures refused { MatchResult result
         (λ _. damaged_refusal kind text.now ≡ None)
         (λ e. IsNearestStringRefusal kind text.now e) }

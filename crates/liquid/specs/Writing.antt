@@ -24,7 +24,8 @@ confidential_length hrp n = length hrp + 1 + 1 + fes_count 0 (33 + n) + 12
 -- why there is none, for a program of n bytes: the first of three faults; or out of memory where
 -- there is one
 abbrev pub IsConfidentialEncodeRefusal : Fe32 → ℕ → EncodeError → Type 0
-IsConfidentialEncodeRefusal version n (WitnessVersion v) = (max_witness_version < version.value) × (v ≡ version)
+IsConfidentialEncodeRefusal version n (WitnessVersion v) =
+    (max_witness_version < version.value) × (v ≡ version)
 IsConfidentialEncodeRefusal version n (UnsupportedVersion v) =
     (0 < version.value) × (version.value ≤ max_witness_version) × (v ≡ version)
 IsConfidentialEncodeRefusal version n (WitnessLength e) =
