@@ -19,6 +19,7 @@ use Rattle.bech32_bch.proofs.Candidates.{apart_inside}
 use Rattle.bech32_checksum.specs.Code.{Code, bech32m}
 use Rattle.bech32_checksum.specs.Packed.{digits}
 use Rattle.bech32_checksum.specs.Roots.{AreLawfulRoots}
+use Rattle.bech32_checksum.specs.declared.lookups.Lookup.TheVariants.{Absent, Found}
 use Rattle.bech32_checksum.specs.laws.RootLaws.{base, bech32_roots}
 use Rattle.bech32_lookup.specs.Found.{IsErasedListing, IsErrorBelow}
 use Rattle.bech32_lookup.specs.Question.{Explains, IsAnswerTo, IsOnlyListing}
@@ -161,8 +162,13 @@ module _ (target : ℕ) (code : Code) (has : PacksTarget target code) (most : co
       -- two or three
       pub said-erased : (found : Option (List (ℕ × Fe32))) → 1 < length s → length s ≤ 3 → IsErasedListing bech32m.generator (digits 6 row) s found
           → MatchOption found (HasNoListing code 3 text given) (λ listing. IsListingOf code 3 text given listing)
-      said-erased found some few h =
-          said s found inside is
+      said-erased None some few h =
+          said s None inside is
           (only_erasures is_field into apart code base 24 26 3 1023 (length data_part) refl most (target-length target code has) roots_of within
-          (digits 6 row) s (Some found) few (omega (arith, some))
-          (erased, subst (λ (g : List Fe32). IsErasedListing g (digits 6 row) s found) (sym has.generator) h)).1
+          (digits 6 row) s Absent few (omega (arith, some))
+          (erased, subst (λ (g : List Fe32). IsErasedListing g (digits 6 row) s None) (sym has.generator) h)).1
+      said-erased (Some listing) some few h =
+          said s (Some listing) inside is
+          (only_erasures is_field into apart code base 24 26 3 1023 (length data_part) refl most (target-length target code has) roots_of within
+          (digits 6 row) s (Found listing) few (omega (arith, some))
+          (erased, subst (λ (g : List Fe32). IsErasedListing g (digits 6 row) s (Some listing)) (sym has.generator) h)).1
