@@ -3,7 +3,7 @@ use Rattle.std.specs.Prelude.{Option, Some, None, ⊤}
 use Rattle.bech32_checksum.specs.declared.lookups.Lookup.{Lookup}
 use Rattle.bech32_checksum.specs.declared.lookups.Lookup.TheVariants.{NoTable, Absent, Found}
 
--- one fact if nothing leaves the residue, and one of what leaves it; without a table nothing is said
+-- one fact if nothing leaves the residue, and another of what leaves it; nothing without a table
 abbrev pub MatchLookup : {T : Type 0} → Lookup T → Type 0 → (T → Type 0) → Type 0
 MatchLookup NoTable absent found = ⊤
 MatchLookup Absent absent found = absent

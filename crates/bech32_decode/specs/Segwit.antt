@@ -12,7 +12,8 @@ use Rattle.bech32_checksum.specs.Encoded.{IsEncodedText}
 use Rattle.bech32_decode.specs.Acceptance.{IsAccepted}
 use Rattle.bech32_decode.specs.Refusals.{IsChecksumRefusal}
 use Rattle.bech32_decode.specs.BeforeChecksum.{IsBeforeChecksum}
-use Rattle.bech32_refusals.specs.SegwitRules.{IsProgramLength, IsLengthRefusal, max_address_length, max_witness_version}
+use Rattle.bech32_refusals.specs.SegwitRules.{IsProgramLength, IsLengthRefusal}
+use Rattle.bech32_refusals.specs.SegwitRules.{max_address_length, max_witness_version}
 use Rattle.bech32_decode.specs.SegwitPadding.{IsPadded, IsPaddingRefusal}
 use Rattle.bech32_refusals.specs.declared.error.ChecksumError.{ChecksumError}
 use Rattle.bech32_refusals.specs.declared.error.UncheckedHrpstringError.{UncheckedHrpstringError}
@@ -96,10 +97,12 @@ IsDataRefusal n fes (TooLong m) = (fes ≢ []) × (max_address_length < n) × (m
 IsDataRefusal n fes (InvalidWitnessVersion v) =
     (n ≤ max_address_length) × IsVersionRefusal fes (InvalidWitnessVersion v)
 IsDataRefusal n fes (Padding e) =
-    (n ≤ max_address_length) × (version : Fe32) × (program : List Fe32) × IsVersioned fes version program
+    (n ≤ max_address_length) × (version : Fe32) × (program : List Fe32)
+    × IsVersioned fes version program
     × IsPaddingRefusal program e
 IsDataRefusal n fes (WitnessLength e) =
-    (n ≤ max_address_length) × (version : Fe32) × (program : List Fe32) × IsVersioned fes version program
+    (n ≤ max_address_length) × (version : Fe32) × (program : List Fe32)
+    × IsVersioned fes version program
     × IsPadded program
     × IsLengthRefusal version (length (to_bytes program)) e
 IsDataRefusal n fes (Unchecked e) = ⊥

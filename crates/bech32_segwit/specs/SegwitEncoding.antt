@@ -5,7 +5,8 @@ use Rattle.bech32_gf.specs.declared.gf32.Fe32.{Fe32}
 use Rattle.bech32_bits.specs.Bits.{to_fes}
 use Rattle.bech32_hrp.specs.Hrp.{lowered}
 use Rattle.bech32_decode.specs.Segwit.{IsLowerAddress, IsAddress}
-use Rattle.bech32_refusals.specs.SegwitRules.{IsProgramLength, IsLengthRefusal, max_address_length, max_witness_version}
+use Rattle.bech32_refusals.specs.SegwitRules.{IsProgramLength, IsLengthRefusal}
+use Rattle.bech32_refusals.specs.SegwitRules.{max_address_length, max_witness_version}
 use Rattle.bech32_segwit.specs.declared.error.EncodeError.{EncodeError}
 use Rattle.bech32_segwit.specs.declared.error.EncodeError.TheVariants.{WitnessVersion}
 use Rattle.bech32_segwit.specs.declared.error.EncodeError.TheVariants.{WitnessLength}
