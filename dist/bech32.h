@@ -323,8 +323,8 @@ uint32_t bech32_correct(uint32_t checksum, const uint8_t *text, size_t text_leng
  *
  * Tested, and not proved: that no function ever keeps the memory, and that none returns 91 if as many
  * bytes are lent as is stated below. tools/every-length lent and tools/nearest make calls at every length,
- * each with exactly that many bytes; the tests lists_or_wants_memory and lists_edits_or_wants_memory of
- * bech32_c, and proposes_or_wants_memory of codex32_c, lend fewer.
+ * each with exactly that many bytes; the tests lists_or_wants_memory of bech32_c and
+ * names_the_least_memory of codex32_c lend fewer.
  */
 typedef struct {
     uint8_t *start;
@@ -596,7 +596,7 @@ uint32_t bech32_descriptor_mend_two(const uint8_t *text, size_t text_length, bec
                                     size_t *places, size_t places_room, uint8_t *texts,
                                     size_t texts_room, size_t *count);
 
-/* These suffice for bech32_suggest: bytes of memory, and room for this many addresses, of 90 bytes each. */
+/* These suffice for bech32_suggest: bytes of memory, and room for this many addresses. */
 #define BECH32_SUGGEST_MEMORY 196608u
 #define BECH32_SUGGESTIONS 48u
 
@@ -628,11 +628,12 @@ uint32_t bech32_descriptor_mend_two(const uint8_t *text, size_t text_length, bec
  * (1 + 31 * m + 961 * m * (m - 1) / 2) times as many with e = 2, and without `?` another 62 + 68 * n by
  * edits; a checksum accepts one in 2^30. The errors looked for are the most, up to 2, for which 100 times
  * the texts are at most 2^30: 2 without `?`; 1 beside one (2 if n is at most 20) or beside two; 0 beside
- * three. With more `?`, with n less than 10, or with more than 91 bytes nothing is tried, and *count is 0.
+ * three. With more `?`, with n less than 10, or with more than BECH32_MAX_SEGWIT_TEXT + 1 bytes nothing is
+ * tried, and *count is 0.
  *
  * If they do not all fit (92), *count is the number of all, and the first of them are put, as many as all
- * three buffers have room for. kinds_room and places_room are numbers of items; *count times 90 bytes are
- * always enough for `texts`.
+ * three buffers have room for. kinds_room and places_room are numbers of items; *count times
+ * BECH32_MAX_SEGWIT_TEXT bytes are always enough for `texts`.
  *
  * If `text` is in the grammar, and no more characters of its data part are wrong than are looked for, the
  * right address is among them, where its form is in use. That is not so of an error in the human-readable

@@ -1,6 +1,6 @@
 /*
  * bech32.h in C99: the functions of the proved library, made of its object for WebAssembly (sha256
- * f848e19343681b3ae16b4c57c97ef9d7889f6c3c82062512e9b9ec6f376a2f71) by translator/translate. Do not edit.
+ * 3d20eb6edfe9f8b9bef2390a11f20bc0215cc2a377469d22135441d2476827f6) by translator/translate. Do not edit.
  *
  *     cc -std=c99 -O2 -c bech32_small.c
  *
@@ -784,8 +784,8 @@ static void f4(Machine *m, u64 l0, u32 l1, u64 l2, u64 l3, u64 l4) {
 
 /* bech32_small::input::read */
 static void f5(Machine *m, u64 l0, u64 l1, u64 l2) {
-    u32 l8 = 0, l10 = 0, l12 = 0, l13 = 0, l14 = 0, w0, w1, w2;
-    u64 l3 = 0, l4 = 0, l5 = 0, l6 = 0, l7 = 0, l9 = 0, l11 = 0, l15 = 0, l16 = 0, t0;
+    u32 l8 = 0, l10 = 0, l11 = 0, l12 = 0, l13 = 0, l14 = 0, w0, w1, w2;
+    u64 l3 = 0, l4 = 0, l5 = 0, l6 = 0, l7 = 0, l9 = 0, l15 = 0, l16 = 0, l17 = 0, t0;
     FRAME(m, 128u);
     t0 = m->stack_pointer;
     t0 = t0 - 128ull;
@@ -805,100 +805,125 @@ static void f5(Machine *m, u64 l0, u64 l1, u64 l2) {
     t0 = I64_LOAD(m, l4 + 8u);
     l6 = t0;
     l7 = l6;
-    L15:;
+    L13:;
     w0 = l5 == l3;
     l8 = w0;
     if (l8) goto L11;
-    t0 = l7 + l5;
-    l9 = t0;
-    t0 = l9 + 18446744073709551615ull;
-    w0 = I32_LOAD8_S(m, t0);
-    l10 = w0;
-    w0 = SIGNED_32(l10) < SIGNED_32(0u);
-    if (w0) goto L14;
     t0 = l3 + 1ull;
     l3 = t0;
     t0 = l7 + 18446744073709551615ull;
     l7 = t0;
-    t0 = (u64)l10;
-    t0 = t0 & 255ull;
-    w0 = I32_LOAD8_U(m, t0 + PLACE(0u));
-    w0 = w0 < 32u;
-    if (w0) goto L15;
-    w0 = l10 & 255u;
+    t0 = l7 + l5;
+    l9 = t0;
+    w0 = I32_LOAD8_U(m, l9);
     l10 = w0;
-    t0 = l5 - l3;
-    l11 = t0;
-    goto L13;
+    w0 = l10 + 4294967248u;
+    w0 = w0 & 255u;
+    w0 = w0 > 9u;
+    w1 = l10 & 223u;
+    w1 = w1 + 4294967231u;
+    w1 = w1 & 255u;
+    w1 = w1 > 25u;
+    w0 = w0 & w1;
+    if (w0) goto L14;
+    w0 = l10 | 32u;
+    l11 = w0;
+    w0 = l11 ^ 111u;
+    l12 = w0;
+    w0 = l11 ^ 105u;
+    l13 = w0;
+    w0 = l11 ^ 98u;
+    l14 = w0;
+    w0 = l11 ^ 49u;
+    l11 = w0;
+    w0 = l14 < l11;
+    w0 = w0 ? l14 : l11;
+    l11 = w0;
+    w0 = l13 < l11;
+    w0 = w0 ? l13 : l11;
+    l11 = w0;
+    w0 = l12 < l11;
+    w0 = w0 ? l12 : l11;
+    if (w0) goto L13;
     L14:;
-    l11 = 18446744073709551614ull;
+    l11 = 0u;
+    w0 = I32_EXTEND8_S(l10);
+    l10 = w0;
+    w0 = SIGNED_32(l10) < SIGNED_32(0u);
+    if (w0) goto L16;
+    t0 = l5 - l3;
+    l15 = t0;
+    goto L15;
+    L16:;
+    l15 = 18446744073709551614ull;
+    t0 = l9 + 18446744073709551615ull;
+    w0 = I32_LOAD8_U(m, t0);
+    w0 = w0 > 191u;
+    if (w0) goto L17;
     t0 = l9 + 18446744073709551614ull;
     w0 = I32_LOAD8_U(m, t0);
     w0 = w0 > 191u;
-    if (w0) goto L16;
-    t0 = l9 + 18446744073709551613ull;
-    w0 = I32_LOAD8_U(m, t0);
-    w0 = w0 > 191u;
     t0 = w0 ? 18446744073709551613ull : 18446744073709551612ull;
-    l11 = t0;
-    L16:;
-    t0 = l11 + l5;
+    l15 = t0;
+    L17:;
+    t0 = l15 + l5;
     l9 = t0;
     t0 = l9 - l3;
-    l11 = t0;
+    t0 = t0 + 1ull;
+    l15 = t0;
     t0 = l7 + l9;
     l3 = t0;
-    w0 = I32_LOAD8_S(m, l3);
+    t0 = l3 + 1ull;
+    w0 = I32_LOAD8_S(m, t0);
     l12 = w0;
     w0 = l12 & 255u;
     l10 = w0;
     w0 = SIGNED_32(l12) > SIGNED_32(4294967295u);
-    if (w0) goto L13;
-    t0 = l3 + 1ull;
+    if (w0) goto L15;
+    t0 = l3 + 2ull;
     w0 = I32_LOAD8_U(m, t0);
     w0 = w0 & 63u;
     l13 = w0;
     w0 = l12 > 4294967263u;
-    if (w0) goto L17;
+    if (w0) goto L18;
     w0 = l10 << 6;
     w0 = w0 & 1984u;
     w0 = w0 | l13;
     l10 = w0;
-    goto L13;
-    L17:;
-    t0 = l3 + 2ull;
+    goto L15;
+    L18:;
+    t0 = l3 + 3ull;
     w0 = I32_LOAD8_U(m, t0);
     w0 = w0 & 63u;
     l14 = w0;
     w0 = l12 > 4294967279u;
-    if (w0) goto L18;
+    if (w0) goto L19;
     w0 = l13 << 6;
     w1 = l10 << 12;
     w1 = w1 & 61440u;
     w0 = w0 | w1;
     w0 = w0 | l14;
     l10 = w0;
-    goto L13;
-    L18:;
+    goto L15;
+    L19:;
     w0 = l14 << 6;
     w1 = l13 << 12;
     w2 = l10 << 18;
     w2 = w2 & 1835008u;
     w1 = w1 | w2;
     w0 = w0 | w1;
-    t0 = l3 + 3ull;
+    t0 = l3 + 4ull;
     w1 = I32_LOAD8_U(m, t0);
     w1 = w1 & 63u;
     w0 = w0 | w1;
     l10 = w0;
-    L13:;
+    L15:;
     w0 = l10 == 49u;
-    if (w0) goto L19;
-    l12 = 0u;
-    l13 = 21u;
+    if (w0) goto L20;
+    l12 = 21u;
     goto L4;
-    L19:;
-    l15 = l6;
+    L20:;
+    l16 = l6;
     w0 = l5 == 0;
     if (w0) goto L8;
     goto L9;
@@ -920,8 +945,8 @@ static void f5(Machine *m, u64 l0, u64 l1, u64 l2) {
     I64_STORE(m, t0, 0ull);
     goto L0;
     L11:;
-    l11 = 0ull;
     l15 = 0ull;
+    l16 = 0ull;
     w0 = l5 == 0;
     w0 = w0 == 0;
     if (w0) goto L9;
@@ -930,115 +955,115 @@ static void f5(Machine *m, u64 l0, u64 l1, u64 l2) {
     return;
     L9:;
     w0 = l5 != 1ull;
-    if (w0) goto L22;
+    if (w0) goto L23;
     l3 = 0ull;
+    l11 = 0u;
     l10 = 0u;
-    l12 = 0u;
-    goto L21;
-    L22:;
+    goto L22;
+    L23:;
     t0 = l5 & 1ull;
-    l16 = t0;
+    l17 = t0;
     t0 = l5 & 18446744073709551614ull;
     l9 = t0;
     l3 = 0ull;
+    l11 = 0u;
     l10 = 0u;
-    l12 = 0u;
-    L23:;
+    L24:;
     t0 = l6 + l3;
     l7 = t0;
     w0 = I32_LOAD8_U(m, l7);
-    l13 = w0;
-    w0 = l13 + 4294967231u;
-    w0 = w0 & 255u;
-    w0 = w0 < 26u;
-    w0 = l12 | w0;
-    t0 = l7 + 1ull;
-    w1 = I32_LOAD8_U(m, t0);
-    l14 = w1;
-    w1 = l14 + 4294967231u;
-    w1 = w1 & 255u;
-    w1 = w1 < 26u;
-    w0 = w0 | w1;
     l12 = w0;
-    w0 = l13 + 4294967199u;
+    w0 = l12 + 4294967231u;
     w0 = w0 & 255u;
     w0 = w0 < 26u;
     w0 = l10 | w0;
-    w1 = l14 + 4294967199u;
+    t0 = l7 + 1ull;
+    w1 = I32_LOAD8_U(m, t0);
+    l13 = w1;
+    w1 = l13 + 4294967231u;
     w1 = w1 & 255u;
     w1 = w1 < 26u;
     w0 = w0 | w1;
     l10 = w0;
+    w0 = l12 + 4294967199u;
+    w0 = w0 & 255u;
+    w0 = w0 < 26u;
+    w0 = l11 | w0;
+    w1 = l13 + 4294967199u;
+    w1 = w1 & 255u;
+    w1 = w1 < 26u;
+    w0 = w0 | w1;
+    l11 = w0;
     t0 = l3 + 2ull;
     l3 = t0;
     w0 = l9 != l3;
-    if (w0) goto L23;
-    w0 = l16 == 0;
-    if (w0) goto L20;
-    L21:;
+    if (w0) goto L24;
+    w0 = l17 == 0;
+    if (w0) goto L21;
+    L22:;
     t0 = l6 + l3;
     w0 = I32_LOAD8_U(m, t0);
-    l13 = w0;
-    w0 = l13 + 4294967231u;
-    w0 = w0 & 255u;
-    w0 = w0 < 26u;
-    w0 = l12 | w0;
     l12 = w0;
-    w0 = l13 + 4294967199u;
+    w0 = l12 + 4294967231u;
     w0 = w0 & 255u;
     w0 = w0 < 26u;
     w0 = l10 | w0;
     l10 = w0;
-    L20:;
-    w0 = l10 & l12;
-    l12 = w0;
+    w0 = l12 + 4294967199u;
+    w0 = w0 & 255u;
+    w0 = w0 < 26u;
+    w0 = l11 | w0;
+    l11 = w0;
+    L21:;
+    w0 = l11 & l10;
+    l11 = w0;
     if (l8) goto L7;
-    w0 = l12 & 1u;
+    w0 = l11 & 1u;
     if (w0) goto L7;
     L8:;
     t0 = l4 + 24ull;
     MEMORY_FILL(m, t0, 0u, 104ull);
     t0 = l4 + 24ull;
-    f7(m, t0, l15, l11);
+    f7(m, t0, l16, l15);
     w0 = I32_LOAD8_U(m, l4 + 24u);
-    l12 = w0;
-    w0 = l12 == 0;
-    if (w0) goto L24;
+    l11 = w0;
+    w0 = l11 == 0;
+    if (w0) goto L25;
     l10 = 1u;
-    w0 = l12 == 1u;
+    w0 = l11 == 1u;
     if (w0) goto L5;
-    L24:;
+    L25:;
     l10 = 0u;
-    t0 = l11 + 1ull;
+    t0 = l15 + 1ull;
     l7 = t0;
     t0 = l6 + l7;
     l3 = t0;
     t0 = l5 - l7;
-    l7 = t0;
-    w0 = f8(m, l15, l11, l3, l7);
-    l12 = w0;
-    l13 = 0u;
+    l5 = t0;
+    w0 = f8(m, l16, l15, l3, l5);
+    l11 = w0;
+    l12 = 0u;
     goto L1;
     L7:;
     l10 = 1u;
-    w0 = l12 & 1u;
+    w0 = l11 & 1u;
     w0 = w0 == 0;
     if (w0) goto L6;
-    l12 = 0u;
-    l13 = 22u;
+    l11 = 0u;
+    l12 = 22u;
     l1 = 0ull;
     goto L3;
     L6:;
-    l12 = 0u;
-    l13 = 23u;
+    l11 = 0u;
+    l12 = 23u;
     goto L4;
     L5:;
     t0 = I64_LOAD8_U(m, l4 + 32u);
     t0 = t0 << 2;
     w0 = I32_LOAD(m, t0 + PLACE(2080u));
-    l13 = w0;
-    l12 = 0u;
-    l15 = 0ull;
+    l12 = w0;
+    l11 = 0u;
+    l16 = 0ull;
     l1 = 0ull;
     l2 = 0ull;
     goto L2;
@@ -1047,31 +1072,31 @@ static void f5(Machine *m, u64 l0, u64 l1, u64 l2) {
     l10 = 1u;
     L3:;
     l2 = 0ull;
-    l15 = 0ull;
+    l16 = 0ull;
     L2:;
-    l11 = 0ull;
+    l15 = 0ull;
     l3 = 0ull;
-    l7 = 0ull;
+    l5 = 0ull;
     L1:;
     I32_STORE(m, l0, l10);
     t0 = l0 + 60ull;
     I32_STORE(m, t0, 0u);
     t0 = l0 + 56ull;
-    I32_STORE(m, t0, l12);
+    I32_STORE(m, t0, l11);
     t0 = l0 + 48ull;
-    I64_STORE(m, t0, l7);
+    I64_STORE(m, t0, l5);
     t0 = l0 + 40ull;
     I64_STORE(m, t0, l3);
     t0 = l0 + 32ull;
-    I64_STORE(m, t0, l11);
-    t0 = l0 + 24ull;
     I64_STORE(m, t0, l15);
+    t0 = l0 + 24ull;
+    I64_STORE(m, t0, l16);
     t0 = l0 + 16ull;
     I64_STORE(m, t0, l2);
     t0 = l0 + 8ull;
     I64_STORE(m, t0, l1);
     t0 = l0 + 4ull;
-    I32_STORE(m, t0, l13);
+    I32_STORE(m, t0, l12);
     L0:;
     t0 = l4 + 128ull;
     m->stack_pointer = t0;
@@ -4369,8 +4394,8 @@ static u32 of_bech32_fault(Machine *m, u32 l0, u64 l1, u64 l2, u64 l3) {
 
 /* rattle::export bech32_fault */
 static u32 f36(Machine *m, u32 l0, u64 l1, u64 l2, u64 l3) {
-    u32 w0, w1;
-    u64 l4 = 0, l5 = 0, l6 = 0, l7 = 0, l8 = 0, t0, t1;
+    u32 l7 = 0, l8 = 0, l9 = 0, l10 = 0, w0, w1;
+    u64 l4 = 0, l5 = 0, l6 = 0, l11 = 0, l12 = 0, t0, t1;
     FRAME(m, 32u);
     t0 = m->stack_pointer;
     t0 = t0 - 32ull;
@@ -4389,188 +4414,197 @@ static u32 f36(Machine *m, u32 l0, u64 l1, u64 l2, u64 l3) {
     w0 = I32_LOAD(m, l5 + 12u);
     w1 = I32_LOAD8_U(m, l5 + 8u);
     w0 = w1 ? w0 : 0u;
-    l0 = w0;
-    w0 = l0 + 4294967275u;
+    l7 = w0;
+    w0 = l7 + 4294967275u;
     switch (w0) {
-    case 0: goto L5;
-    case 1: goto L4;
+    case 0: goto L4;
+    case 1: goto L1;
     case 2: goto L0;
-    default: goto L3;
+    default: goto L2;
     }
-    L5:;
-    w0 = l2 == 0;
-    w0 = w0 == 0;
-    if (w0) goto L6;
-    l2 = 0ull;
-    goto L0;
-    L6:;
-    t0 = l6 + 18446744073709551615ull;
-    l4 = t0;
-    L7:;
-    t0 = l4 + l2;
-    t0 = I64_LOAD8_S(m, t0);
-    l1 = t0;
-    w0 = SIGNED_64(l1) <= SIGNED_64(18446744073709551615ull);
-    if (w0) goto L1;
-    w0 = I32_LOAD8_U(m, l1 + PLACE(0u));
-    w0 = w0 > 31u;
-    if (w0) goto L1;
-    t0 = l2 + 18446744073709551615ull;
-    l2 = t0;
-    w0 = l2 == 0;
-    w0 = w0 == 0;
-    if (w0) goto L7;
-    l2 = 0ull;
-    goto L0;
     L4:;
     w0 = l2 == 0;
     w0 = w0 == 0;
-    if (w0) goto L8;
+    if (w0) goto L5;
     l2 = 0ull;
     goto L0;
-    L8:;
-    l1 = 0ull;
-    L10:;
-    t0 = l6 + l1;
-    w0 = I32_LOAD8_U(m, t0);
-    w0 = w0 + 4294967199u;
-    w0 = w0 & 255u;
-    w0 = w0 < 26u;
-    if (w0) goto L9;
-    t0 = l1 + 1ull;
+    L5:;
+    t0 = l6 + 18446744073709551615ull;
     l1 = t0;
-    w0 = l2 != l1;
-    if (w0) goto L10;
-    l1 = l2;
-    L9:;
-    l4 = 0ull;
-    L12:;
-    t0 = l6 + l4;
+    L6:;
+    t0 = l1 + l2;
     w0 = I32_LOAD8_U(m, t0);
-    w0 = w0 + 4294967231u;
+    l0 = w0;
+    w0 = l0 + 4294967248u;
     w0 = w0 & 255u;
-    w0 = w0 < 26u;
-    if (w0) goto L11;
-    t0 = l4 + 1ull;
-    l4 = t0;
-    w0 = l2 != l4;
-    if (w0) goto L12;
-    l4 = l2;
-    L11:;
-    w0 = l4 > l1;
-    t0 = w0 ? l4 : l1;
-    l2 = t0;
-    goto L0;
-    L3:;
-    w0 = l0 < 11u;
-    if (w0) goto L13;
-    w0 = l0 > 12u;
-    if (w0) goto L14;
-    w0 = l2 == 0;
-    w0 = w0 == 0;
-    if (w0) goto L15;
-    l2 = 0ull;
-    goto L0;
-    L15:;
+    w0 = w0 > 9u;
+    w1 = l0 & 223u;
+    w1 = w1 + 4294967231u;
+    w1 = w1 & 255u;
+    w1 = w1 > 25u;
+    w0 = w0 & w1;
+    if (w0) goto L8;
+    w0 = l0 | 32u;
+    l0 = w0;
+    w0 = l0 ^ 111u;
+    l8 = w0;
+    w0 = l0 ^ 105u;
+    l9 = w0;
+    w0 = l0 ^ 98u;
+    l10 = w0;
+    w0 = l0 ^ 49u;
+    l0 = w0;
+    w0 = l10 < l0;
+    w0 = w0 ? l10 : l0;
+    l0 = w0;
+    w0 = l9 < l0;
+    w0 = w0 ? l9 : l0;
+    l0 = w0;
+    w0 = l8 < l0;
+    w0 = w0 ? l8 : l0;
+    if (w0) goto L7;
+    L8:;
     t0 = l6 + 18446744073709551615ull;
     l4 = t0;
-    L17:;
+    L10:;
     t0 = l4 + l2;
-    w0 = I32_LOAD8_U(m, t0);
-    w0 = w0 != 49u;
-    if (w0) goto L18;
+    w0 = I32_LOAD8_S(m, t0);
+    w0 = SIGNED_32(w0) <= SIGNED_32(4294967231u);
+    if (w0) goto L11;
     l1 = l2;
-    goto L16;
-    L18:;
+    goto L9;
+    L11:;
     l1 = 0ull;
     t0 = l2 + 18446744073709551615ull;
     l2 = t0;
     w0 = l2 != 0ull;
-    if (w0) goto L17;
-    L16:;
+    if (w0) goto L10;
+    L9:;
     w0 = l1 != 0ull;
     t0 = (u64)w0;
     t0 = l1 - t0;
     l2 = t0;
     goto L0;
-    L14:;
-    w0 = l0 > 15u;
-    if (w0) goto L19;
+    L7:;
+    t0 = l2 + 18446744073709551615ull;
+    l2 = t0;
     w0 = l2 == 0;
     w0 = w0 == 0;
-    if (w0) goto L20;
+    if (w0) goto L6;
     l2 = 0ull;
     goto L0;
-    L20:;
+    TRAP(m);
+    return 0;
+    L2:;
+    w0 = l7 < 11u;
+    if (w0) goto L12;
+    w0 = l7 > 12u;
+    if (w0) goto L13;
+    w0 = l2 == 0;
+    w0 = w0 == 0;
+    if (w0) goto L14;
+    l2 = 0ull;
+    goto L0;
+    L14:;
+    t0 = l6 + 18446744073709551615ull;
+    l4 = t0;
+    L16:;
+    t0 = l4 + l2;
+    w0 = I32_LOAD8_U(m, t0);
+    w0 = w0 != 49u;
+    if (w0) goto L17;
+    l1 = l2;
+    goto L15;
+    L17:;
+    l1 = 0ull;
+    t0 = l2 + 18446744073709551615ull;
+    l2 = t0;
+    w0 = l2 != 0ull;
+    if (w0) goto L16;
+    L15:;
+    w0 = l1 != 0ull;
+    t0 = (u64)w0;
+    t0 = l1 - t0;
+    l2 = t0;
+    goto L0;
+    L13:;
+    w0 = l7 > 15u;
+    if (w0) goto L18;
+    w0 = l2 == 0;
+    w0 = w0 == 0;
+    if (w0) goto L19;
+    l2 = 0ull;
+    goto L0;
+    L19:;
     t0 = l6 + 18446744073709551615ull;
     l4 = t0;
     l1 = l2;
-    L22:;
+    L21:;
     t0 = l4 + l1;
     w0 = I32_LOAD8_U(m, t0);
     w0 = w0 == 49u;
-    if (w0) goto L21;
+    if (w0) goto L20;
     t0 = l1 + 18446744073709551615ull;
     l1 = t0;
     w0 = l1 == 0;
     w0 = w0 == 0;
-    if (w0) goto L22;
+    if (w0) goto L21;
     l2 = 0ull;
     goto L0;
-    L21:;
+    L20:;
     l2 = 0ull;
     w0 = l1 < 2ull;
     if (w0) goto L0;
     t0 = l1 + 18446744073709551615ull;
-    l7 = t0;
+    l11 = t0;
     t0 = l1 + 18446744073709551615ull;
     l4 = t0;
     l2 = 0ull;
-    L24:;
+    L23:;
     t0 = l6 + l2;
     w0 = I32_LOAD8_U(m, t0);
     w0 = w0 + 4294967169u;
     w0 = w0 & 255u;
     w0 = w0 < 162u;
-    if (w0) goto L23;
+    if (w0) goto L22;
     t0 = l2 + 1ull;
     l2 = t0;
     w0 = l4 != l2;
-    if (w0) goto L24;
-    l2 = l7;
-    L23:;
+    if (w0) goto L23;
+    l2 = l11;
+    L22:;
     t0 = l1 + 18446744073709551615ull;
-    l8 = t0;
+    l12 = t0;
     l4 = 0ull;
-    L26:;
+    L25:;
     t0 = l6 + l4;
     w0 = I32_LOAD8_U(m, t0);
     w0 = w0 + 4294967199u;
     w0 = w0 & 255u;
     w0 = w0 < 26u;
-    if (w0) goto L25;
+    if (w0) goto L24;
     t0 = l4 + 1ull;
     l4 = t0;
-    w0 = l8 != l4;
-    if (w0) goto L26;
-    l4 = l7;
-    L25:;
+    w0 = l12 != l4;
+    if (w0) goto L25;
+    l4 = l11;
+    L24:;
     t0 = l1 + 18446744073709551615ull;
-    l8 = t0;
+    l12 = t0;
     l1 = 0ull;
-    L28:;
+    L27:;
     t0 = l6 + l1;
     w0 = I32_LOAD8_U(m, t0);
     w0 = w0 + 4294967231u;
     w0 = w0 & 255u;
     w0 = w0 < 26u;
-    if (w0) goto L27;
+    if (w0) goto L26;
     t0 = l1 + 1ull;
     l1 = t0;
-    w0 = l8 != l1;
-    if (w0) goto L28;
-    l1 = l7;
-    L27:;
+    w0 = l12 != l1;
+    if (w0) goto L27;
+    l1 = l11;
+    L26:;
     w0 = l1 > l4;
     t0 = w0 ? l1 : l4;
     l1 = t0;
@@ -4578,42 +4612,57 @@ static u32 f36(Machine *m, u32 l0, u64 l1, u64 l2, u64 l3) {
     t0 = w0 ? l1 : l2;
     l2 = t0;
     goto L0;
-    L19:;
-    w0 = l0 + 4294967265u;
+    L18:;
+    w0 = l7 + 4294967265u;
     w0 = w0 < 3u;
     if (w0) goto L0;
-    L13:;
+    L12:;
     t0 = I64_LOAD(m, l3);
     l2 = t0;
     goto L0;
-    TRAP(m);
-    return 0;
     L1:;
-    t0 = l6 + 18446744073709551615ull;
-    l4 = t0;
-    L30:;
-    t0 = l4 + l2;
-    w0 = I32_LOAD8_S(m, t0);
-    w0 = SIGNED_32(w0) <= SIGNED_32(4294967231u);
-    if (w0) goto L31;
-    l1 = l2;
-    goto L29;
-    L31:;
+    w0 = l2 == 0;
+    w0 = w0 == 0;
+    if (w0) goto L28;
+    l2 = 0ull;
+    goto L0;
+    L28:;
     l1 = 0ull;
-    t0 = l2 + 18446744073709551615ull;
-    l2 = t0;
-    w0 = l2 != 0ull;
+    L30:;
+    t0 = l6 + l1;
+    w0 = I32_LOAD8_U(m, t0);
+    w0 = w0 + 4294967199u;
+    w0 = w0 & 255u;
+    w0 = w0 < 26u;
+    if (w0) goto L29;
+    t0 = l1 + 1ull;
+    l1 = t0;
+    w0 = l2 != l1;
     if (w0) goto L30;
+    l1 = l2;
     L29:;
-    w0 = l1 != 0ull;
-    t0 = (u64)w0;
-    t0 = l1 - t0;
+    l4 = 0ull;
+    L32:;
+    t0 = l6 + l4;
+    w0 = I32_LOAD8_U(m, t0);
+    w0 = w0 + 4294967231u;
+    w0 = w0 & 255u;
+    w0 = w0 < 26u;
+    if (w0) goto L31;
+    t0 = l4 + 1ull;
+    l4 = t0;
+    w0 = l2 != l4;
+    if (w0) goto L32;
+    l4 = l2;
+    L31:;
+    w0 = l4 > l1;
+    t0 = w0 ? l4 : l1;
     l2 = t0;
     L0:;
     I64_STORE(m, l3, l2);
     t0 = l5 + 32ull;
     m->stack_pointer = t0;
-    return l0;
+    return l7;
 }
 
 /* bech32_message */
@@ -5327,9 +5376,10 @@ static void f44(Machine *m) {
 }
 
 /*
- * The functions of bech32.h. Texts, bytes and buffers are handed to the library where they lie. Lengths, locations and
- * other numbers are put in the library's form, eight bytes each, and what it answers is given to the caller where the
- * header says so.
+ * How the functions of bech32.h run those of the library: this file has what bech32_calls.c, which is made of the header,
+ * calls, and the functions that it does not have. Texts, bytes and buffers are handed to the library where they lie.
+ * Lengths, locations and other numbers are put in the library's form, eight bytes each, and what it answers is given to
+ * the caller where the header says so.
  *
  * With MACHINE_IS_TESTED a text, a human-readable part, elements, numbers or a column of 2^32 bytes or more are refused with
  * BECH32_NO_MEMORY, and of longer buffers, bytes to encode and programs SOME bytes are handed over: no answer depends
@@ -5338,129 +5388,6 @@ static void f44(Machine *m) {
 
 /* A function of the library that calls itself does so once for each erasure, of which there are six at most. */
 #define DEPTH 7
-
-uint32_t bech32_encode(uint32_t checksum, const uint8_t *hrp, size_t hrp_length, const uint8_t *bytes,
-                       size_t bytes_length, uint8_t *text, size_t text_room, size_t *text_length) {
-    NUMBERS(1);
-    if (IS_TOO_LONG(hrp_length)) {
-        return BECH32_NO_MEMORY;
-    }
-    MACHINE(bech32_encode);
-    u64 bytes_size = SOME(bytes_length), text_size = SOME(text_room);
-    u64 hrp_at = lend(&m, hrp, hrp_length), bytes_at = lend(&m, bytes, bytes_size);
-    u64 text_at = lend_room(&m, text, text_size), at = lend_room(&m, numbers, sizeof number_words);
-    uint32_t number =
-        of_bech32_encode(&m, checksum, hrp_at, hrp_length, bytes_at, bytes_size, text_at, text_size, at);
-    if (number == BECH32_OK) {
-        *text_length = (size_t)get_64(numbers);
-    }
-    return number;
-}
-
-uint32_t bech32_decode(const uint8_t *text, size_t text_length, uint8_t *hrp, size_t hrp_room, size_t *hrp_length,
-                       uint8_t *bytes, size_t bytes_room, size_t *bytes_length) {
-    NUMBERS(2);
-    if (IS_TOO_LONG(text_length)) {
-        return BECH32_NO_MEMORY;
-    }
-    MACHINE(bech32_decode);
-    u64 hrp_size = SOME(hrp_room), bytes_size = SOME(bytes_room);
-    u64 text_at = lend(&m, text, text_length), hrp_at = lend_room(&m, hrp, hrp_size);
-    u64 bytes_at = lend_room(&m, bytes, bytes_size), at = lend_room(&m, numbers, sizeof number_words);
-    uint32_t number =
-        of_bech32_decode(&m, text_at, text_length, hrp_at, hrp_size, at, bytes_at, bytes_size, at + 8);
-    if (number == BECH32_OK) {
-        *hrp_length = (size_t)get_64(numbers);
-        *bytes_length = (size_t)get_64(numbers + 8);
-    }
-    return number;
-}
-
-uint32_t bech32_check(uint32_t checksum, const uint8_t *text, size_t text_length, size_t *hrp_length,
-                      size_t *data_length) {
-    NUMBERS(2);
-    if (IS_TOO_LONG(text_length)) {
-        return BECH32_NO_MEMORY;
-    }
-    MACHINE(bech32_check);
-    u64 text_at = lend(&m, text, text_length), at = lend_room(&m, numbers, sizeof number_words);
-    uint32_t number = of_bech32_check(&m, checksum, text_at, text_length, at, at + 8);
-    if (number == BECH32_OK) {
-        *hrp_length = (size_t)get_64(numbers);
-        *data_length = (size_t)get_64(numbers + 8);
-    }
-    return number;
-}
-
-uint32_t bech32_fault(uint32_t checksum, const uint8_t *text, size_t text_length, size_t *place) {
-    NUMBERS(1);
-    if (IS_TOO_LONG(text_length)) {
-        return BECH32_NO_MEMORY;
-    }
-    MACHINE(bech32_fault);
-    u64 text_at = lend(&m, text, text_length), at = lend_room(&m, numbers, sizeof number_words);
-    uint32_t number = of_bech32_fault(&m, checksum, text_at, text_length, at);
-    if (number != BECH32_OK && number != BECH32_NOT_UTF8 && number != BECH32_BAD_NUMBER) {
-        *place = (size_t)get_64(numbers);
-    }
-    return number;
-}
-
-uint32_t bech32_segwit_encode(const uint8_t *hrp, size_t hrp_length, uint32_t version, const uint8_t *program,
-                              size_t program_length, uint8_t *text, size_t text_room, size_t *text_length) {
-    NUMBERS(1);
-    if (IS_TOO_LONG(hrp_length)) {
-        return BECH32_NO_MEMORY;
-    }
-    MACHINE(bech32_segwit_encode);
-    u64 program_size = SOME(program_length), text_size = SOME(text_room);
-    u64 hrp_at = lend(&m, hrp, hrp_length), program_at = lend(&m, program, program_size);
-    u64 text_at = lend_room(&m, text, text_size), at = lend_room(&m, numbers, sizeof number_words);
-    uint32_t number =
-        of_bech32_segwit_encode(&m, hrp_at, hrp_length, version, program_at, program_size, text_at, text_size, at);
-    if (number == BECH32_OK) {
-        *text_length = (size_t)get_64(numbers);
-    }
-    return number;
-}
-
-uint32_t bech32_segwit_decode(const uint8_t *text, size_t text_length, uint8_t *hrp, size_t hrp_room,
-                              size_t *hrp_length, uint32_t *version, uint8_t *program, size_t program_room,
-                              size_t *program_length) {
-    NUMBERS(3);
-    if (IS_TOO_LONG(text_length)) {
-        return BECH32_NO_MEMORY;
-    }
-    MACHINE(bech32_segwit_decode);
-    u64 hrp_size = SOME(hrp_room), program_size = SOME(program_room);
-    u64 text_at = lend(&m, text, text_length), hrp_at = lend_room(&m, hrp, hrp_size);
-    u64 program_at = lend_room(&m, program, program_size), at = lend_room(&m, numbers, sizeof number_words);
-    uint32_t number = of_bech32_segwit_decode(&m, text_at, text_length, hrp_at, hrp_size, at, at + 8, program_at,
-                                              program_size, at + 16);
-    if (number == BECH32_OK) {
-        *hrp_length = (size_t)get_64(numbers);
-        *version = get_32(numbers + 8);
-        *program_length = (size_t)get_64(numbers + 16);
-    }
-    return number;
-}
-
-uint32_t bech32_message(uint32_t number, uint8_t *message, size_t message_room, size_t *message_length) {
-    NUMBERS(1);
-    MACHINE(bech32_message);
-    u64 message_size = SOME(message_room), message_at = lend_room(&m, message, message_size);
-    u64 at = lend_room(&m, numbers, sizeof number_words);
-    uint32_t answer = of_bech32_message(&m, number, message_at, message_size, at);
-    if (answer == BECH32_OK) {
-        *message_length = (size_t)get_64(numbers);
-    }
-    return answer;
-}
-
-uint32_t bech32_version(void) {
-    MACHINE(bech32_version);
-    return of_bech32_version(&m);
-}
 
 /* The different ones of erasures, in their order, four at most: where there are more than three, the answer depends on
  * that alone. */
@@ -5481,6 +5408,13 @@ OWN size_t put_erasures(u8 *numbers, size_t most, const size_t *erasures, size_t
     return count;
 }
 
+/* At most this many locations are put in the library's form beside the other numbers. More, which few texts have, are put
+ * at the end of the lent memory. */
+#define FEW_EDITS (2u * BECH32_NEAR_EDITS)
+
+/* A location that no edit has: what stands where the library put none. */
+#define NO_LOCATION (~(u64)0)
+
 uint32_t bech32_correct(uint32_t checksum, const uint8_t *text, size_t text_length, const size_t *erasures,
                         size_t erasures_length, size_t *locations, size_t locations_room, uint8_t *values,
                         size_t values_room, size_t *count, uint8_t *mended, size_t mended_room, size_t *mended_length) {
@@ -5493,10 +5427,10 @@ uint32_t bech32_correct(uint32_t checksum, const uint8_t *text, size_t text_leng
     u64 given_count = put_erasures(given, MOST_ERASURES, erasures, erasures_length);
     u64 most = locations_room < BECH32_MAX_LISTED ? locations_room : BECH32_MAX_LISTED;
     u64 values_size = SOME(values_room), mended_size = SOME(mended_room);
-    u64 text_at = lend(&m, text, text_length), interpolate_if_consistent = lend(&m, given, sizeof given_words);
+    u64 text_at = lend(&m, text, text_length), given_at = lend(&m, given, sizeof given_words);
     u64 values_at = lend_room(&m, values, values_size), mended_at = lend_room(&m, mended, mended_size);
     u64 at = lend_room(&m, numbers, sizeof number_words);
-    uint32_t number = of_bech32_correct(&m, checksum, text_at, text_length, interpolate_if_consistent, given_count, at + 16, most,
+    uint32_t number = of_bech32_correct(&m, checksum, text_at, text_length, given_at, given_count, at + 16, most,
                                         values_at, values_size, at, mended_at, mended_size, at + 8);
     if (number == BECH32_OK) {
         *count = (size_t)get_64(numbers);
@@ -5507,13 +5441,6 @@ uint32_t bech32_correct(uint32_t checksum, const uint8_t *text, size_t text_leng
     }
     return number;
 }
-
-/* At most this many locations are put in the library's form beside the other numbers. More, which few texts have, are put
- * at the end of the lent memory. */
-#define FEW_EDITS (2u * BECH32_NEAR_EDITS)
-
-/* A location that no edit has: what stands where the library put none. */
-#define NO_LOCATION (~(u64)0)
 
 /*
  * Columns. ROWS rows are handed over at a time, with their offsets in the library's form: no row depends on another, and
@@ -5590,5 +5517,136 @@ OWN size_t take_offsets(int32_t *offsets, const u8 *form, size_t rows, size_t en
         offsets[i] = (int32_t)(end + get_32(form + 4 * i));
     }
     return end + get_32(form + 4 * rows);
+}
+
+/* Made by tools/make (tools/make.d/machine_calls) from include/bech32.h; do not edit. */
+
+uint32_t bech32_message(uint32_t number, uint8_t *message, size_t message_room, size_t *message_length) {
+    NUMBERS(1);
+    MACHINE(bech32_message);
+    u64 message_size = SOME(message_room), message_at = lend_room(&m, message, message_size);
+    u64 at = lend_room(&m, numbers, sizeof number_words);
+    uint32_t answer = of_bech32_message(&m, number, message_at, message_size, at);
+    if (answer == BECH32_OK) {
+        *message_length = (size_t)get_64(numbers);
+    }
+    return answer;
+}
+
+uint32_t bech32_version(void) {
+    MACHINE(bech32_version);
+    uint32_t answer = of_bech32_version(&m);
+    return answer;
+}
+
+uint32_t bech32_encode(uint32_t checksum, const uint8_t *hrp, size_t hrp_length, const uint8_t *bytes,
+                       size_t bytes_length, uint8_t *text, size_t text_room, size_t *text_length) {
+    NUMBERS(1);
+    if (IS_TOO_LONG(hrp_length)) {
+        return BECH32_NO_MEMORY;
+    }
+    MACHINE(bech32_encode);
+    u64 hrp_at = lend(&m, hrp, hrp_length);
+    u64 bytes_size = SOME(bytes_length), bytes_at = lend(&m, bytes, bytes_size);
+    u64 text_size = SOME(text_room), text_at = lend_room(&m, text, text_size);
+    u64 at = lend_room(&m, numbers, sizeof number_words);
+    uint32_t answer = of_bech32_encode(&m, checksum, hrp_at, hrp_length, bytes_at, bytes_size, text_at, text_size,
+                                       at);
+    if (answer == BECH32_OK) {
+        *text_length = (size_t)get_64(numbers);
+    }
+    return answer;
+}
+
+uint32_t bech32_decode(const uint8_t *text, size_t text_length, uint8_t *hrp, size_t hrp_room, size_t *hrp_length,
+                       uint8_t *bytes, size_t bytes_room, size_t *bytes_length) {
+    NUMBERS(2);
+    if (IS_TOO_LONG(text_length)) {
+        return BECH32_NO_MEMORY;
+    }
+    MACHINE(bech32_decode);
+    u64 text_at = lend(&m, text, text_length);
+    u64 hrp_size = SOME(hrp_room), hrp_at = lend_room(&m, hrp, hrp_size);
+    u64 bytes_size = SOME(bytes_room), bytes_at = lend_room(&m, bytes, bytes_size);
+    u64 at = lend_room(&m, numbers, sizeof number_words);
+    uint32_t answer = of_bech32_decode(&m, text_at, text_length, hrp_at, hrp_size, at, bytes_at, bytes_size, at + 8);
+    if (answer == BECH32_OK) {
+        *hrp_length = (size_t)get_64(numbers);
+        *bytes_length = (size_t)get_64(numbers + 8);
+    }
+    return answer;
+}
+
+uint32_t bech32_check(uint32_t checksum, const uint8_t *text, size_t text_length, size_t *hrp_length,
+                      size_t *data_length) {
+    NUMBERS(2);
+    if (IS_TOO_LONG(text_length)) {
+        return BECH32_NO_MEMORY;
+    }
+    MACHINE(bech32_check);
+    u64 text_at = lend(&m, text, text_length);
+    u64 at = lend_room(&m, numbers, sizeof number_words);
+    uint32_t answer = of_bech32_check(&m, checksum, text_at, text_length, at, at + 8);
+    if (answer == BECH32_OK) {
+        *hrp_length = (size_t)get_64(numbers);
+        *data_length = (size_t)get_64(numbers + 8);
+    }
+    return answer;
+}
+
+uint32_t bech32_fault(uint32_t checksum, const uint8_t *text, size_t text_length, size_t *place) {
+    NUMBERS(1);
+    if (IS_TOO_LONG(text_length)) {
+        return BECH32_NO_MEMORY;
+    }
+    MACHINE(bech32_fault);
+    u64 text_at = lend(&m, text, text_length);
+    u64 at = lend_room(&m, numbers, sizeof number_words);
+    uint32_t answer = of_bech32_fault(&m, checksum, text_at, text_length, at);
+    if (answer != BECH32_OK && answer != BECH32_NOT_UTF8 && answer != BECH32_BAD_NUMBER) {
+        *place = (size_t)get_64(numbers);
+    }
+    return answer;
+}
+
+uint32_t bech32_segwit_encode(const uint8_t *hrp, size_t hrp_length, uint32_t version, const uint8_t *program,
+                              size_t program_length, uint8_t *text, size_t text_room, size_t *text_length) {
+    NUMBERS(1);
+    if (IS_TOO_LONG(hrp_length)) {
+        return BECH32_NO_MEMORY;
+    }
+    MACHINE(bech32_segwit_encode);
+    u64 hrp_at = lend(&m, hrp, hrp_length);
+    u64 program_size = SOME(program_length), program_at = lend(&m, program, program_size);
+    u64 text_size = SOME(text_room), text_at = lend_room(&m, text, text_size);
+    u64 at = lend_room(&m, numbers, sizeof number_words);
+    uint32_t answer = of_bech32_segwit_encode(&m, hrp_at, hrp_length, version, program_at, program_size, text_at,
+                                              text_size, at);
+    if (answer == BECH32_OK) {
+        *text_length = (size_t)get_64(numbers);
+    }
+    return answer;
+}
+
+uint32_t bech32_segwit_decode(const uint8_t *text, size_t text_length, uint8_t *hrp, size_t hrp_room,
+                              size_t *hrp_length, uint32_t *version, uint8_t *program, size_t program_room,
+                              size_t *program_length) {
+    NUMBERS(3);
+    if (IS_TOO_LONG(text_length)) {
+        return BECH32_NO_MEMORY;
+    }
+    MACHINE(bech32_segwit_decode);
+    u64 text_at = lend(&m, text, text_length);
+    u64 hrp_size = SOME(hrp_room), hrp_at = lend_room(&m, hrp, hrp_size);
+    u64 program_size = SOME(program_room), program_at = lend_room(&m, program, program_size);
+    u64 at = lend_room(&m, numbers, sizeof number_words);
+    uint32_t answer = of_bech32_segwit_decode(&m, text_at, text_length, hrp_at, hrp_size, at, at + 8, program_at,
+                                              program_size, at + 16);
+    if (answer == BECH32_OK) {
+        *hrp_length = (size_t)get_64(numbers);
+        *version = get_32(numbers + 8);
+        *program_length = (size_t)get_64(numbers + 16);
+    }
+    return answer;
 }
 

@@ -1,6 +1,6 @@
 /*
  * codex32.h in C99: the functions of the proved library, made of its object for WebAssembly (sha256
- * 2a2e837d19ee4d61a5b841d613628b950e6644ec755a424c1cd5d5ebab3ff3e7) by translator/translate. Do not edit.
+ * 91c6bfcb0576720901364a23ed31d8dae5fbc91c9015413f6e9eaa47b6b7cf6c) by translator/translate. Do not edit.
  *
  *     cc -std=c99 -O2 -c codex32.c
  *
@@ -14,8 +14,8 @@
  *     codex32_encode_payload  1088
  *     codex32_message         16
  *     codex32_parse           816
- *     codex32_propose         7472
- *     codex32_propose_long    7472
+ *     codex32_propose         7744
+ *     codex32_propose_long    7744
  *     codex32_recover         3440
  *     codex32_share           1264
  *     codex32_split           1600
@@ -41,10 +41,10 @@
 #define stack_codex32_parse 816u
 #endif
 #ifndef stack_codex32_propose
-#define stack_codex32_propose 7472u
+#define stack_codex32_propose 7744u
 #endif
 #ifndef stack_codex32_propose_long
-#define stack_codex32_propose_long 7472u
+#define stack_codex32_propose_long 7744u
 #endif
 #ifndef stack_codex32_recover
 #define stack_codex32_recover 3440u
@@ -691,58 +691,56 @@ static void f39(Machine *m, u64 l0, u64 l1, u32 l2, u64 l3, u64 l4);
 static void f40(Machine *m, u64 l0, u64 l1, u64 l2, u64 l3);
 static void f41(Machine *m, u64 l0, u64 l1, u64 l2, u64 l3, u64 l4);
 static void f42(Machine *m, u64 l0, u64 l1, u64 l2, u64 l3, u64 l4, u64 l5);
-static void f43(Machine *m, u64 l0);
-static void f44(Machine *m, u64 l0, u64 l1, u64 l2, u64 l3);
+static void f43(Machine *m, u64 l0, u64 l1, u64 l2, u64 l3);
+static void f44(Machine *m, u64 l0, u64 l1, u64 l2, u64 l3, u64 l4, u64 l5);
 static void f45(Machine *m, u64 l0, u64 l1, u64 l2, u64 l3, u64 l4, u64 l5);
-static void f46(Machine *m, u64 l0);
-static void f47(Machine *m, u64 l0, u64 l1, u64 l2, u64 l3, u64 l4, u64 l5);
-static u32 f48(Machine *m, u32 l0);
+static u32 f46(Machine *m, u32 l0);
+static u32 f47(Machine *m, u32 l0);
+static void f48(Machine *m, u64 l0, u32 l1, u64 l2, u64 l3);
 static u32 f49(Machine *m, u32 l0);
-static void f50(Machine *m, u64 l0, u32 l1, u64 l2, u64 l3);
-static u32 f51(Machine *m, u32 l0);
-static u32 f52(Machine *m, u64 l0, u64 l1);
+static u32 f50(Machine *m, u64 l0, u64 l1);
+static u32 f51(Machine *m, u64 l0);
+static void f52(Machine *m, u64 l0, u64 l1, u64 l2, u64 l3);
 static u32 f53(Machine *m, u64 l0);
-static void f54(Machine *m, u64 l0, u64 l1, u64 l2, u64 l3);
+static void f54(Machine *m, u64 l0, u64 l1, u64 l2, u64 l3, u64 l4, u64 l5);
 static u32 f55(Machine *m, u64 l0);
-static void f56(Machine *m, u64 l0, u64 l1, u64 l2, u64 l3, u64 l4, u64 l5);
+static u32 f56(Machine *m, u64 l0, u64 l1);
 static u32 f57(Machine *m, u64 l0);
-static u32 f58(Machine *m, u64 l0, u64 l1);
-static u32 f59(Machine *m, u64 l0);
-static void f60(Machine *m, u64 l0, u32 l1, u32 l2);
-static u32 f61(Machine *m, u64 l0, u64 l1);
-static void f62(Machine *m, u64 l0);
-static u32 f63(Machine *m, u64 l0);
-static u32 f64(Machine *m, u64 l0, u64 l1);
-static void f65(Machine *m, u64 l0, u64 l1, u64 l2, u64 l3);
-static void f66(Machine *m, u64 l0, u64 l1, u64 l2, u64 l3, u64 l4, u64 l5, u64 l6);
-static u32 f67(Machine *m, u64 l0, u64 l1, u64 l2);
-static void f68(Machine *m, u64 l0, u64 l1, u64 l2, u64 l3, u64 l4, u64 l5);
-static void f69(Machine *m, u64 l0, u32 l1);
-static void f70(Machine *m, u64 l0, u64 l1, u64 l2, u64 l3);
-static void f71(Machine *m, u64 l0);
-static u32 f72(Machine *m, u64 l0, u64 l1);
+static void f58(Machine *m, u64 l0, u32 l1, u32 l2);
+static u32 f59(Machine *m, u64 l0, u64 l1);
+static void f60(Machine *m, u64 l0);
+static u32 f61(Machine *m, u64 l0);
+static u32 f62(Machine *m, u64 l0, u64 l1);
+static void f63(Machine *m, u64 l0, u64 l1, u64 l2, u64 l3);
+static void f64(Machine *m, u64 l0, u64 l1, u64 l2, u64 l3, u64 l4, u64 l5, u64 l6);
+static u32 f65(Machine *m, u64 l0, u64 l1, u64 l2);
+static void f66(Machine *m, u64 l0, u64 l1, u64 l2, u64 l3, u64 l4, u64 l5);
+static void f67(Machine *m, u64 l0, u32 l1);
+static void f68(Machine *m, u64 l0, u64 l1, u64 l2, u64 l3);
+static void f69(Machine *m, u64 l0);
+static u32 f70(Machine *m, u64 l0, u64 l1);
 static u32 of_codex32_derive(Machine *m, u32 l0, u64 l1, u64 l2, u64 l3, u64 l4, u64 l5, u64 l6, u64 l7);
-static u32 f74(Machine *m, u32 l0, u64 l1, u64 l2, u64 l3, u64 l4, u64 l5, u64 l6, u64 l7);
+static u32 f72(Machine *m, u32 l0, u64 l1, u64 l2, u64 l3, u64 l4, u64 l5, u64 l6, u64 l7);
 static u32 of_codex32_encode(Machine *m, u32 l0, u64 l1, u64 l2, u32 l3, u64 l4, u64 l5, u64 l6, u64 l7, u64 l8);
-static u32 f76(Machine *m, u32 l0, u64 l1, u64 l2, u32 l3, u64 l4, u64 l5, u64 l6, u64 l7, u64 l8);
+static u32 f74(Machine *m, u32 l0, u64 l1, u64 l2, u32 l3, u64 l4, u64 l5, u64 l6, u64 l7, u64 l8);
 static u32 of_codex32_encode_payload(Machine *m, u32 l0, u64 l1, u64 l2, u32 l3, u64 l4, u64 l5, u64 l6, u64 l7, u64 l8);
-static u32 f78(Machine *m, u32 l0, u64 l1, u64 l2, u32 l3, u64 l4, u64 l5, u64 l6, u64 l7, u64 l8);
+static u32 f76(Machine *m, u32 l0, u64 l1, u64 l2, u32 l3, u64 l4, u64 l5, u64 l6, u64 l7, u64 l8);
 static u32 of_codex32_message(Machine *m, u32 l0, u64 l1, u64 l2, u64 l3);
-static u32 f80(Machine *m, u32 l0, u64 l1, u64 l2, u64 l3);
+static u32 f78(Machine *m, u32 l0, u64 l1, u64 l2, u64 l3);
 static u32 of_codex32_parse(Machine *m, u64 l0, u64 l1, u64 l2, u64 l3, u64 l4);
-static u32 f82(Machine *m, u64 l0, u64 l1, u64 l2, u64 l3, u64 l4);
+static u32 f80(Machine *m, u64 l0, u64 l1, u64 l2, u64 l3, u64 l4);
 static u32 of_codex32_propose(Machine *m, u64 l0, u64 l1, u64 l2, u64 l3, u64 l4, u64 l5);
-static u32 f84(Machine *m, u64 l0, u64 l1, u64 l2, u64 l3, u64 l4, u64 l5);
+static u32 f82(Machine *m, u64 l0, u64 l1, u64 l2, u64 l3, u64 l4, u64 l5);
 static u32 of_codex32_propose_long(Machine *m, u64 l0, u64 l1, u64 l2, u64 l3, u64 l4, u64 l5);
-static u32 f86(Machine *m, u64 l0, u64 l1, u64 l2, u64 l3, u64 l4, u64 l5);
+static u32 f84(Machine *m, u64 l0, u64 l1, u64 l2, u64 l3, u64 l4, u64 l5);
 static u32 of_codex32_recover(Machine *m, u64 l0, u64 l1, u64 l2, u64 l3, u64 l4, u64 l5, u64 l6);
-static u32 f88(Machine *m, u64 l0, u64 l1, u64 l2, u64 l3, u64 l4, u64 l5, u64 l6);
+static u32 f86(Machine *m, u64 l0, u64 l1, u64 l2, u64 l3, u64 l4, u64 l5, u64 l6);
 static u32 of_codex32_share(Machine *m, u64 l0, u64 l1, u64 l2, u64 l3, u64 l4, u64 l5, u64 l6, u64 l7);
-static u32 f90(Machine *m, u64 l0, u64 l1, u64 l2, u64 l3, u64 l4, u64 l5, u64 l6, u64 l7);
+static u32 f88(Machine *m, u64 l0, u64 l1, u64 l2, u64 l3, u64 l4, u64 l5, u64 l6, u64 l7);
 static u32 of_codex32_split(Machine *m, u32 l0, u64 l1, u64 l2, u64 l3, u64 l4, u64 l5, u64 l6, u64 l7, u64 l8, u64 l9, u64 l10);
-static u32 f92(Machine *m, u32 l0, u64 l1, u64 l2, u64 l3, u64 l4, u64 l5, u64 l6, u64 l7, u64 l8, u64 l9, u64 l10);
+static u32 f90(Machine *m, u32 l0, u64 l1, u64 l2, u64 l3, u64 l4, u64 l5, u64 l6, u64 l7, u64 l8, u64 l9, u64 l10);
 static u32 of_codex32_version(Machine *m);
-static void f94(Machine *m);
+static void f92(Machine *m);
 
 /* codex32_calls::derive::put_string */
 static void f5(Machine *m, u64 l0, u64 l1, u32 l2, u64 l3) {
@@ -5552,59 +5550,59 @@ static void f33(Machine *m, u64 l0, u64 l1, u32 l2, u64 l3, u64 l4, u64 l5, u64 
     u32 l8 = 0, l14 = 0, l20 = 0, l21 = 0, w0, w1;
     u64 l7 = 0, l9 = 0, l10 = 0, l11 = 0, l12 = 0, l13 = 0, l15 = 0, l16 = 0, l17 = 0, l18 = 0, l19 = 0, l22 = 0, t0, t1, t2, t3;
     u64 t4;
-    FRAME(m, 2048u);
+    FRAME(m, 2320u);
     t0 = m->stack_pointer;
-    t0 = t0 - 2048ull;
+    t0 = t0 - 2320ull;
     l7 = t0;
     m->stack_pointer = l7;
-    I32_STORE(m, l7 + 391u, 0u);
-    I64_STORE(m, l7 + 384u, 0ull);
+    I32_STORE(m, l7 + 383u, 0u);
     I64_STORE(m, l7 + 376u, 0ull);
-    I64_STORE(m, l7 + 360u, 0ull);
-    I32_STORE8(m, l7 + 368u, 0u);
-    t0 = l7 + 224ull;
+    I64_STORE(m, l7 + 368u, 0ull);
+    I64_STORE(m, l7 + 352u, 0ull);
+    I32_STORE8(m, l7 + 360u, 0u);
+    t0 = l7 + 216ull;
     MEMORY_FILL(m, t0, 0u, 136ull);
-    I32_STORE8(m, l7 + 216u, 0u);
-    I64_STORE(m, l7 + 208u, 0ull);
-    t0 = l7 + 128ull;
+    I32_STORE8(m, l7 + 208u, 0u);
+    I64_STORE(m, l7 + 200u, 0ull);
+    t0 = l7 + 120ull;
     MEMORY_FILL(m, t0, 0u, 80ull);
-    I32_STORE(m, l7 + 119u, 0u);
-    I64_STORE(m, l7 + 112u, 0ull);
+    I32_STORE(m, l7 + 111u, 0u);
     I64_STORE(m, l7 + 104u, 0ull);
+    I64_STORE(m, l7 + 96u, 0ull);
+    I64_STORE(m, l7 + 72u, 0ull);
     I64_STORE(m, l7 + 80u, 0ull);
-    I64_STORE(m, l7 + 88u, 0ull);
-    I32_STORE(m, l7 + 95u, 0u);
-    t0 = l7 + 11ull;
+    I32_STORE(m, l7 + 87u, 0u);
+    t0 = l7 + 3ull;
     MEMORY_FILL(m, t0, 0u, 69ull);
-    t0 = l7 + 128ull;
+    t0 = l7 + 120ull;
     f8(m, t0, l3, l4);
-    t0 = I64_LOAD(m, l7 + 144u);
-    l4 = t0;
     t0 = I64_LOAD(m, l7 + 136u);
+    l4 = t0;
+    t0 = I64_LOAD(m, l7 + 128u);
     l3 = t0;
-    w0 = I32_LOAD8_U(m, l7 + 128u);
+    w0 = I32_LOAD8_U(m, l7 + 120u);
     if (w0) goto L4;
     w0 = l2 & 1u;
     if (w0) goto L6;
     l8 = 0u;
-    t0 = l7 + 1688ull;
+    t0 = l7 + 1400ull;
     MEMORY_FILL(m, t0, 0u, 72ull);
-    t0 = l7 + 1688ull;
+    t0 = l7 + 1400ull;
     f34(m, t0, 0u, l3, l4);
-    w0 = I32_LOAD8_U(m, l7 + 1688u);
+    w0 = I32_LOAD8_U(m, l7 + 1400u);
     w0 = w0 == 0;
     if (w0) goto L2;
-    t0 = I64_LOAD(m, l7 + 1736u);
-    I64_STORE(m, l7 + 1840u, t0);
-    t0 = I64_LOAD(m, l7 + 1744u);
-    I64_STORE(m, l7 + 1848u, t0);
-    w0 = I32_LOAD(m, l7 + 1751u);
-    I32_STORE(m, l7 + 1855u, w0);
-    t0 = I64_LOAD32_U(m, l7 + 1705u);
-    t1 = l7 + 1711ull;
+    t0 = I64_LOAD(m, l7 + 1448u);
+    I64_STORE(m, l7 + 1960u, t0);
+    t0 = I64_LOAD(m, l7 + 1456u);
+    I64_STORE(m, l7 + 1968u, t0);
+    w0 = I32_LOAD(m, l7 + 1463u);
+    I32_STORE(m, l7 + 1975u, w0);
+    t0 = I64_LOAD32_U(m, l7 + 1417u);
+    t1 = l7 + 1423ull;
     t1 = I64_LOAD8_U(m, t1);
     t1 = t1 << 48;
-    t2 = l7 + 1709ull;
+    t2 = l7 + 1421ull;
     t2 = I64_LOAD16_U(m, t2);
     t2 = t2 << 32;
     t1 = t1 | t2;
@@ -5613,24 +5611,24 @@ static void f33(Machine *m, u64 l0, u64 l1, u32 l2, u64 l3, u64 l4, u64 l5, u64 
     goto L5;
     L6:;
     l8 = 0u;
-    t0 = l7 + 1688ull;
+    t0 = l7 + 1400ull;
     MEMORY_FILL(m, t0, 0u, 72ull);
-    t0 = l7 + 1688ull;
+    t0 = l7 + 1400ull;
     f34(m, t0, 1u, l3, l4);
-    w0 = I32_LOAD8_U(m, l7 + 1688u);
+    w0 = I32_LOAD8_U(m, l7 + 1400u);
     w0 = w0 == 0;
     if (w0) goto L2;
-    t0 = I64_LOAD(m, l7 + 1736u);
-    I64_STORE(m, l7 + 1840u, t0);
-    t0 = I64_LOAD(m, l7 + 1744u);
-    I64_STORE(m, l7 + 1848u, t0);
-    w0 = I32_LOAD(m, l7 + 1751u);
-    I32_STORE(m, l7 + 1855u, w0);
-    t0 = I64_LOAD32_U(m, l7 + 1705u);
-    t1 = l7 + 1711ull;
+    t0 = I64_LOAD(m, l7 + 1448u);
+    I64_STORE(m, l7 + 1960u, t0);
+    t0 = I64_LOAD(m, l7 + 1456u);
+    I64_STORE(m, l7 + 1968u, t0);
+    w0 = I32_LOAD(m, l7 + 1463u);
+    I32_STORE(m, l7 + 1975u, w0);
+    t0 = I64_LOAD32_U(m, l7 + 1417u);
+    t1 = l7 + 1423ull;
     t1 = I64_LOAD8_U(m, t1);
     t1 = t1 << 48;
-    t2 = l7 + 1709ull;
+    t2 = l7 + 1421ull;
     t2 = I64_LOAD16_U(m, t2);
     t2 = t2 << 32;
     t1 = t1 | t2;
@@ -5638,33 +5636,33 @@ static void f33(Machine *m, u64 l0, u64 l1, u32 l2, u64 l3, u64 l4, u64 l5, u64 
     l9 = t0;
     L5:;
     l8 = 1u;
-    t0 = I64_LOAD(m, l7 + 1728u);
+    t0 = I64_LOAD(m, l7 + 1440u);
     l10 = t0;
-    t0 = I64_LOAD(m, l7 + 1720u);
+    t0 = I64_LOAD(m, l7 + 1432u);
     l11 = t0;
-    t0 = I64_LOAD(m, l7 + 1712u);
+    t0 = I64_LOAD(m, l7 + 1424u);
     l12 = t0;
-    t0 = I64_LOAD8_U(m, l7 + 1696u);
+    t0 = I64_LOAD8_U(m, l7 + 1408u);
     l13 = t0;
-    w0 = I32_LOAD8_U(m, l7 + 1704u);
+    w0 = I32_LOAD8_U(m, l7 + 1416u);
     l14 = w0;
     goto L1;
     L4:;
     I64_STORE(m, l0, 1ull);
     t0 = l0 + 25ull;
-    t1 = I64_LOAD32_U(m, l7 + 153u);
+    t1 = I64_LOAD32_U(m, l7 + 145u);
     I64_STORE32(m, t0, t1);
     t0 = l0 + 48ull;
-    t1 = I64_LOAD(m, l7 + 176u);
-    I64_STORE(m, t0, t1);
-    t0 = l0 + 40ull;
     t1 = I64_LOAD(m, l7 + 168u);
     I64_STORE(m, t0, t1);
-    t0 = l0 + 32ull;
+    t0 = l0 + 40ull;
     t1 = I64_LOAD(m, l7 + 160u);
     I64_STORE(m, t0, t1);
+    t0 = l0 + 32ull;
+    t1 = I64_LOAD(m, l7 + 152u);
+    I64_STORE(m, t0, t1);
     t0 = l0 + 24ull;
-    w0 = I32_LOAD8_U(m, l7 + 152u);
+    w0 = I32_LOAD8_U(m, l7 + 144u);
     l2 = w0;
     t1 = (u64)l2;
     I64_STORE8(m, t0, t1);
@@ -5676,46 +5674,46 @@ static void f33(Machine *m, u64 l0, u64 l1, u32 l2, u64 l3, u64 l4, u64 l5, u64 
     t1 = l3 & 65535ull;
     I64_STORE(m, t0, t1);
     t0 = l0 + 56ull;
-    t1 = I64_LOAD(m, l7 + 184u);
+    t1 = I64_LOAD(m, l7 + 176u);
     I64_STORE(m, t0, t1);
     t0 = l0 + 64ull;
-    t1 = I64_LOAD(m, l7 + 192u);
+    t1 = I64_LOAD(m, l7 + 184u);
     I64_STORE(m, t0, t1);
     t0 = l0 + 71ull;
-    w0 = I32_LOAD(m, l7 + 199u);
+    w0 = I32_LOAD(m, l7 + 191u);
     I32_STORE(m, t0, w0);
     t0 = l0 + 31ull;
-    t1 = l7 + 128ull;
+    t1 = l7 + 120ull;
     t1 = t1 + 31ull;
     t1 = I64_LOAD8_U(m, t1);
     I64_STORE8(m, t0, t1);
     t0 = l0 + 29ull;
-    t1 = l7 + 128ull;
+    t1 = l7 + 120ull;
     t1 = t1 + 29ull;
     t1 = I64_LOAD16_U(m, t1);
     I64_STORE16(m, t0, t1);
-    I32_STORE8(m, l7 + 368u, l2);
-    I64_STORE(m, l7 + 360u, l4);
+    I32_STORE8(m, l7 + 360u, l2);
+    I64_STORE(m, l7 + 352u, l4);
     goto L0;
     TRAP(m);
     return;
     L2:;
-    I32_STORE(m, l7 + 1855u, l8);
+    I32_STORE(m, l7 + 1975u, l8);
     l9 = 0ull;
-    I64_STORE(m, l7 + 1848u, 0ull);
-    I64_STORE(m, l7 + 1840u, 0ull);
+    I64_STORE(m, l7 + 1968u, 0ull);
+    I64_STORE(m, l7 + 1960u, 0ull);
     l12 = 0ull;
     l11 = 0ull;
     l10 = 0ull;
     l13 = 0ull;
     l14 = 0u;
     L1:;
-    w0 = I32_LOAD(m, l7 + 1855u);
-    I32_STORE(m, l7 + 119u, w0);
-    t0 = I64_LOAD(m, l7 + 1848u);
-    I64_STORE(m, l7 + 112u, t0);
-    t0 = I64_LOAD(m, l7 + 1840u);
+    w0 = I32_LOAD(m, l7 + 1975u);
+    I32_STORE(m, l7 + 111u, w0);
+    t0 = I64_LOAD(m, l7 + 1968u);
     I64_STORE(m, l7 + 104u, t0);
+    t0 = I64_LOAD(m, l7 + 1960u);
+    I64_STORE(m, l7 + 96u, t0);
     w0 = l8 == 0;
     if (w0) goto L7;
     I64_STORE(m, l0, 1ull);
@@ -5740,44 +5738,44 @@ static void f33(Machine *m, u64 l0, u64 l1, u32 l2, u64 l3, u64 l4, u64 l5, u64 
     t0 = l0 + 8ull;
     I64_STORE(m, t0, 4ull);
     t0 = l0 + 56ull;
-    t1 = I64_LOAD(m, l7 + 104u);
+    t1 = I64_LOAD(m, l7 + 96u);
     I64_STORE(m, t0, t1);
     t0 = l0 + 64ull;
-    t1 = I64_LOAD(m, l7 + 112u);
+    t1 = I64_LOAD(m, l7 + 104u);
     I64_STORE(m, t0, t1);
     t0 = l0 + 71ull;
-    w0 = I32_LOAD(m, l7 + 119u);
+    w0 = I32_LOAD(m, l7 + 111u);
     I32_STORE(m, t0, w0);
     goto L0;
     L7:;
     l12 = 0ull;
+    I64_STORE(m, l7 + 536u, 0ull);
     I64_STORE(m, l7 + 544u, 0ull);
-    I64_STORE(m, l7 + 552u, 0ull);
     l8 = 0u;
-    I32_STORE(m, l7 + 559u, 0u);
-    t0 = l7 + 475ull;
+    I32_STORE(m, l7 + 551u, 0u);
+    t0 = l7 + 467ull;
     MEMORY_FILL(m, t0, 0u, 69ull);
     t0 = I64_LOAD(m, l1 + 8u);
     l9 = t0;
     I64_STORE(m, l1 + 8u, 0ull);
-    I32_STORE(m, l7 + 415u, 0u);
-    I64_STORE(m, l7 + 408u, 0ull);
+    I32_STORE(m, l7 + 407u, 0u);
     I64_STORE(m, l7 + 400u, 0ull);
+    I64_STORE(m, l7 + 392u, 0ull);
     w0 = l9 != 0ull;
     if (w0) goto L10;
-    I32_STORE(m, l7 + 95u, 0u);
+    I32_STORE(m, l7 + 87u, 0u);
     l15 = 0ull;
-    I64_STORE(m, l7 + 88u, 0ull);
     I64_STORE(m, l7 + 80u, 0ull);
+    I64_STORE(m, l7 + 72u, 0ull);
     l16 = 6ull;
     goto L9;
     L10:;
     t0 = I64_LOAD(m, l1);
     l10 = t0;
-    I64_STORE(m, l7 + 592u, l9);
     I64_STORE(m, l7 + 584u, l9);
-    I64_STORE(m, l7 + 576u, l10);
-    I64_STORE(m, l7 + 568u, 1ull);
+    I64_STORE(m, l7 + 576u, l9);
+    I64_STORE(m, l7 + 568u, l10);
+    I64_STORE(m, l7 + 560u, 1ull);
     t0 = l9 + 16ull;
     l11 = t0;
     w0 = l11 < l9;
@@ -5827,9 +5825,9 @@ static void f33(Machine *m, u64 l0, u64 l1, u32 l2, u64 l3, u64 l4, u64 l5, u64 
     t0 = l9 & 18446744073709551600ull;
     w0 = l17 > t0;
     if (w0) goto L11;
-    I64_STORE(m, l7 + 584u, 0ull);
     I64_STORE(m, l7 + 576u, 0ull);
     I64_STORE(m, l7 + 568u, 0ull);
+    I64_STORE(m, l7 + 560u, 0ull);
     t0 = l13 + 18446744073709551552ull;
     l9 = t0;
     t0 = l10 + l9;
@@ -5842,156 +5840,176 @@ static void f33(Machine *m, u64 l0, u64 l1, u32 l2, u64 l3, u64 l4, u64 l5, u64 
     I64_STORE(m, l12, l10);
     l11 = 1ull;
     L11:;
+    I64_STORE(m, l7 + 440u, 0ull);
+    I64_STORE(m, l7 + 432u, l11);
+    I64_STORE(m, l7 + 424u, l12);
     I64_STORE(m, l7 + 448u, 0ull);
-    I64_STORE(m, l7 + 440u, l11);
-    I64_STORE(m, l7 + 432u, l12);
     I64_STORE(m, l7 + 456u, 0ull);
-    I64_STORE(m, l7 + 464u, 0ull);
-    t0 = l7 + 568ull;
-    I64_STORE(m, l7 + 424u, t0);
+    t0 = l7 + 560ull;
+    I64_STORE(m, l7 + 416u, t0);
+    I64_STORE(m, l7 + 792u, 0ull);
     I64_STORE(m, l7 + 800u, 0ull);
-    I64_STORE(m, l7 + 808u, 0ull);
-    I32_STORE(m, l7 + 815u, 0u);
+    I32_STORE(m, l7 + 807u, 0u);
+    I64_STORE(m, l7 + 768u, 0ull);
     I64_STORE(m, l7 + 776u, 0ull);
-    I64_STORE(m, l7 + 784u, 0ull);
-    I32_STORE(m, l7 + 791u, 0u);
-    t0 = l7 + 707ull;
+    I32_STORE(m, l7 + 783u, 0u);
+    t0 = l7 + 699ull;
     MEMORY_FILL(m, t0, 0u, 69ull);
-    I32_STORE(m, l7 + 703u, 0u);
-    I64_STORE(m, l7 + 696u, 0ull);
+    I32_STORE(m, l7 + 695u, 0u);
     I64_STORE(m, l7 + 688u, 0ull);
-    t0 = l7 + 619ull;
+    I64_STORE(m, l7 + 680u, 0ull);
+    t0 = l7 + 611ull;
     MEMORY_FILL(m, t0, 0u, 69ull);
-    I32_STORE(m, l7 + 615u, 0u);
-    I64_STORE(m, l7 + 608u, 0ull);
+    I32_STORE(m, l7 + 607u, 0u);
     I64_STORE(m, l7 + 600u, 0ull);
-    I32_STORE(m, l7 + 839u, 0u);
-    I64_STORE(m, l7 + 832u, 0ull);
+    I64_STORE(m, l7 + 592u, 0ull);
+    I32_STORE(m, l7 + 831u, 0u);
     I64_STORE(m, l7 + 824u, 0ull);
+    I64_STORE(m, l7 + 816u, 0ull);
     w0 = l2 & 1u;
     if (w0) goto L42;
+    I64_STORE(m, l7 + 848u, 0ull);
     I64_STORE(m, l7 + 856u, 0ull);
-    I64_STORE(m, l7 + 864u, 0ull);
-    I32_STORE(m, l7 + 871u, 0u);
-    t0 = l7 + 424ull;
-    I64_STORE(m, l7 + 848u, t0);
+    I32_STORE(m, l7 + 863u, 0u);
+    t0 = l7 + 416ull;
+    I64_STORE(m, l7 + 840u, t0);
+    I64_STORE(m, l7 + 1024u, 0ull);
     I64_STORE(m, l7 + 1032u, 0ull);
-    I64_STORE(m, l7 + 1040u, 0ull);
-    I32_STORE(m, l7 + 1047u, 0u);
-    t0 = l7 + 960ull;
+    I32_STORE(m, l7 + 1039u, 0u);
+    t0 = l7 + 952ull;
     MEMORY_FILL(m, t0, 0u, 72ull);
-    I64_STORE(m, l7 + 952u, 0ull);
     I64_STORE(m, l7 + 944u, 0ull);
     I64_STORE(m, l7 + 936u, 0ull);
     I64_STORE(m, l7 + 928u, 0ull);
     I64_STORE(m, l7 + 920u, 0ull);
+    I64_STORE(m, l7 + 912u, 0ull);
+    I64_STORE(m, l7 + 872u, 0ull);
     I64_STORE(m, l7 + 880u, 0ull);
     I64_STORE(m, l7 + 888u, 0ull);
     I64_STORE(m, l7 + 896u, 0ull);
     I64_STORE(m, l7 + 904u, 0ull);
-    I64_STORE(m, l7 + 912u, 0ull);
-    t0 = l7 + 960ull;
+    t0 = l7 + 952ull;
     f34(m, t0, 0u, l3, l4);
-    t0 = I64_LOAD(m, l7 + 992u);
-    l4 = t0;
     t0 = I64_LOAD(m, l7 + 984u);
-    l18 = t0;
+    l4 = t0;
     t0 = I64_LOAD(m, l7 + 976u);
-    l9 = t0;
+    l18 = t0;
     t0 = I64_LOAD(m, l7 + 968u);
+    l9 = t0;
+    t0 = I64_LOAD(m, l7 + 960u);
     l3 = t0;
-    w0 = I32_LOAD8_U(m, l7 + 960u);
+    w0 = I32_LOAD8_U(m, l7 + 952u);
     if (w0) goto L41;
-    t0 = l7 + 920ull;
-    t1 = l7 + 424ull;
+    t0 = l7 + 912ull;
+    t1 = l7 + 416ull;
     f35(m, t0, t1, l18, l4);
-    w0 = I32_LOAD8_U(m, l7 + 920u);
+    w0 = I32_LOAD8_U(m, l7 + 912u);
     if (w0) goto L18;
-    t0 = I64_LOAD(m, l7 + 952u);
-    l12 = t0;
     t0 = I64_LOAD(m, l7 + 944u);
-    l11 = t0;
+    l12 = t0;
     t0 = I64_LOAD(m, l7 + 936u);
-    l13 = t0;
+    l11 = t0;
     t0 = I64_LOAD(m, l7 + 928u);
+    l13 = t0;
+    t0 = I64_LOAD(m, l7 + 920u);
     l10 = t0;
-    t0 = l7 + 880ull;
-    t1 = I64_LOAD(m, l7 + 848u);
+    t0 = l7 + 872ull;
+    t1 = I64_LOAD(m, l7 + 840u);
     f36(m, t0, t1, l18, l4);
-    w0 = I32_LOAD8_U(m, l7 + 880u);
+    w0 = I32_LOAD8_U(m, l7 + 872u);
     if (w0) goto L43;
-    t0 = I64_LOAD(m, l7 + 912u);
-    l15 = t0;
     t0 = I64_LOAD(m, l7 + 904u);
-    l16 = t0;
-    t0 = I64_LOAD(m, l7 + 888u);
-    l19 = t0;
+    l15 = t0;
     t0 = I64_LOAD(m, l7 + 896u);
+    l16 = t0;
+    t0 = I64_LOAD(m, l7 + 880u);
+    l19 = t0;
+    t0 = I64_LOAD(m, l7 + 888u);
     l4 = t0;
     l2 = 0u;
-    t0 = l7 + 1216ull;
+    t0 = l7 + 1208ull;
     MEMORY_FILL(m, t0, 0u, 136ull);
     l17 = 0ull;
-    I64_STORE(m, l7 + 1088u, 0ull);
     I64_STORE(m, l7 + 1080u, 0ull);
     I64_STORE(m, l7 + 1072u, 0ull);
     I64_STORE(m, l7 + 1064u, 0ull);
     I64_STORE(m, l7 + 1056u, 0ull);
-    I32_STORE(m, l7 + 1399u, 0u);
-    I64_STORE(m, l7 + 1392u, 0ull);
+    I64_STORE(m, l7 + 1048u, 0ull);
+    I32_STORE(m, l7 + 1391u, 0u);
     I64_STORE(m, l7 + 1384u, 0ull);
     I64_STORE(m, l7 + 1376u, 0ull);
     I64_STORE(m, l7 + 1368u, 0ull);
     I64_STORE(m, l7 + 1360u, 0ull);
     I64_STORE(m, l7 + 1352u, 0ull);
+    I64_STORE(m, l7 + 1344u, 0ull);
     w0 = l4 < 9ull;
     if (w0) goto L44;
-    t0 = l7 + 1096ull;
+    t0 = l7 + 1088ull;
     MEMORY_FILL(m, t0, 0u, 120ull);
     l8 = 0u;
     goto L22;
     L44:;
-    t0 = l7 + 1352ull;
+    t0 = l7 + 1344ull;
     f12(m, t0, l3, l9, l10, l13);
     l8 = 1u;
-    w0 = I32_LOAD8_U(m, l7 + 1352u);
+    w0 = I32_LOAD8_U(m, l7 + 1344u);
     w0 = w0 != 1u;
     if (w0) goto L40;
-    I32_STORE8(m, l7 + 1432u, 0u);
-    I64_STORE(m, l7 + 1424u, 0ull);
-    I64_STORE(m, l7 + 1416u, 0ull);
-    I64_STORE(m, l7 + 1408u, 0ull);
-    t0 = l7 + 1408ull;
-    t1 = l7 + 1352ull;
+    I32_STORE8(m, l7 + 1584u, 0u);
+    I64_STORE(m, l7 + 1576u, 0ull);
+    I64_STORE(m, l7 + 1568u, 0ull);
+    I64_STORE(m, l7 + 1560u, 0ull);
+    t0 = l7 + 1560ull;
+    t1 = l7 + 1344ull;
     t1 = t1 | 1ull;
     f37(m, t0, t1);
-    t0 = l7 + 1472ull;
+    t0 = l7 + 1400ull;
+    MEMORY_FILL(m, t0, 0u, 72ull);
+    I64_STORE(m, l7 + 1480u, 0ull);
+    I64_STORE(m, l7 + 1488u, 0ull);
+    I64_STORE(m, l7 + 1496u, 0ull);
+    I64_STORE(m, l7 + 1504u, 0ull);
+    I32_STORE(m, l7 + 1545u, 0u);
+    I32_STORE(m, l7 + 1548u, 0u);
+    I64_STORE(m, l7 + 1552u, l13);
+    t0 = I64_LOAD(m, l7 + 1560u);
+    I64_STORE(m, l7 + 1520u, t0);
+    t0 = I64_LOAD(m, l7 + 1568u);
+    I64_STORE(m, l7 + 1528u, t0);
+    t0 = I64_LOAD(m, l7 + 1576u);
+    I64_STORE(m, l7 + 1536u, t0);
+    w0 = I32_LOAD8_U(m, l7 + 1584u);
+    I32_STORE8(m, l7 + 1544u, w0);
+    t0 = l7 + 840ull;
+    I64_STORE(m, l7 + 1472u, t0);
+    t0 = l7 + 840ull;
+    I64_STORE(m, l7 + 1512u, t0);
+    t0 = l7 + 1624ull;
     MEMORY_FILL(m, t0, 0u, 96ull);
-    t0 = l7 + 1472ull;
-    t1 = l7 + 848ull;
+    t0 = l7 + 1624ull;
+    t1 = l7 + 840ull;
     f38(m, t0, t1, l19, l4, l13);
-    w0 = I32_LOAD8_U(m, l7 + 1472u);
+    w0 = I32_LOAD8_U(m, l7 + 1624u);
     if (w0) goto L19;
-    w0 = I32_LOAD8_U(m, l7 + 1480u);
+    w0 = I32_LOAD8_U(m, l7 + 1632u);
     w0 = w0 != 1u;
     if (w0) goto L21;
-    w0 = I32_LOAD8_U(m, l7 + 1488u);
+    w0 = I32_LOAD8_U(m, l7 + 1640u);
     l14 = w0;
     t0 = (u64)l14;
     t0 = t0 & 255ull;
-    I64_STORE(m, l7 + 1608u, t0);
-    t0 = l7 + 1616ull;
+    I64_STORE(m, l7 + 1760u, t0);
+    t0 = l7 + 1768ull;
     l3 = t0;
-    t0 = l7 + 1496ull;
-    l9 = t0;
-    MEMORY_COPY(m, l3, l9, 72ull);
-    I64_STORE(m, l7 + 1728u, 0ull);
-    I64_STORE(m, l7 + 1720u, 0ull);
-    I64_STORE(m, l7 + 1712u, 0ull);
-    I64_STORE(m, l7 + 1704u, 0ull);
-    I64_STORE(m, l7 + 1696u, 0ull);
-    I64_STORE(m, l7 + 1688u, 0ull);
-    t0 = l7 + 1608ull;
+    t0 = l7 + 1648ull;
+    MEMORY_COPY(m, l3, t0, 72ull);
+    I64_STORE(m, l7 + 2000u, 0ull);
+    I64_STORE(m, l7 + 1992u, 0ull);
+    I64_STORE(m, l7 + 1984u, 0ull);
+    I64_STORE(m, l7 + 1976u, 0ull);
+    I64_STORE(m, l7 + 1968u, 0ull);
+    I64_STORE(m, l7 + 1960u, 0ull);
+    t0 = l7 + 1760ull;
     w0 = l14 & 255u;
     l2 = w0;
     t1 = l2 ? 16ull : 64ull;
@@ -6001,45 +6019,46 @@ static void f33(Machine *m, u64 l0, u64 l1, u32 l2, u64 l3, u64 l4, u64 l5, u64 
     t0 = l4 + 18446744073709551609ull;
     w0 = t0 > 1ull;
     if (w0) goto L47;
-    I64_STORE(m, l7 + 1440u, 0ull);
-    I64_STORE(m, l7 + 1448u, 0ull);
-    I64_STORE(m, l7 + 1456u, 0ull);
-    t0 = l7 + 848ull;
-    I64_STORE(m, l7 + 1464u, t0);
+    I64_STORE(m, l7 + 1592u, 0ull);
+    I64_STORE(m, l7 + 1600u, 0ull);
+    I64_STORE(m, l7 + 1608u, 0ull);
+    t0 = l7 + 840ull;
+    I64_STORE(m, l7 + 1616u, t0);
     l20 = 0u;
     goto L46;
     L47:;
-    t0 = l7 + 1688ull;
-    t1 = l7 + 848ull;
-    t2 = I64_LOAD(m, l7 + 1616u);
-    t2 = l2 ? t2 : l3;
+    t0 = l7 + 1960ull;
+    t1 = l7 + 840ull;
+    t2 = I64_LOAD(m, l7 + 1768u);
+    l9 = t2;
+    t2 = l2 ? l9 : l3;
     f39(m, t0, t1, 1285u, t2, l4);
-    t0 = I64_LOAD(m, l7 + 1704u);
-    I64_STORE(m, l7 + 1440u, t0);
-    t0 = I64_LOAD(m, l7 + 1712u);
-    I64_STORE(m, l7 + 1448u, t0);
-    t0 = I64_LOAD(m, l7 + 1720u);
-    I64_STORE(m, l7 + 1456u, t0);
-    t0 = I64_LOAD(m, l7 + 1728u);
-    I64_STORE(m, l7 + 1464u, t0);
-    w0 = I32_LOAD8_U(m, l7 + 1688u);
+    t0 = I64_LOAD(m, l7 + 1976u);
+    I64_STORE(m, l7 + 1592u, t0);
+    t0 = I64_LOAD(m, l7 + 1984u);
+    I64_STORE(m, l7 + 1600u, t0);
+    t0 = I64_LOAD(m, l7 + 1992u);
+    I64_STORE(m, l7 + 1608u, t0);
+    t0 = I64_LOAD(m, l7 + 2000u);
+    I64_STORE(m, l7 + 1616u, t0);
+    w0 = I32_LOAD8_U(m, l7 + 1960u);
     if (w0) goto L45;
-    w0 = I32_LOAD8_U(m, l7 + 1696u);
+    w0 = I32_LOAD8_U(m, l7 + 1968u);
     l20 = w0;
     L46:;
-    t0 = I64_LOAD(m, l7 + 1440u);
-    I64_STORE(m, l7 + 1576u, t0);
-    t0 = I64_LOAD(m, l7 + 1448u);
-    I64_STORE(m, l7 + 1584u, t0);
-    t0 = I64_LOAD(m, l7 + 1456u);
-    I64_STORE(m, l7 + 1592u, t0);
-    t0 = I64_LOAD(m, l7 + 1464u);
-    I64_STORE(m, l7 + 1600u, t0);
+    t0 = I64_LOAD(m, l7 + 1592u);
+    I64_STORE(m, l7 + 1728u, t0);
+    t0 = I64_LOAD(m, l7 + 1600u);
+    I64_STORE(m, l7 + 1736u, t0);
+    t0 = I64_LOAD(m, l7 + 1608u);
+    I64_STORE(m, l7 + 1744u, t0);
+    t0 = I64_LOAD(m, l7 + 1616u);
+    I64_STORE(m, l7 + 1752u, t0);
     t0 = (u64)l20;
     t0 = t0 & 255ull;
-    I64_STORE(m, l7 + 1568u, t0);
+    I64_STORE(m, l7 + 1720u, t0);
     l21 = 0u;
-    t0 = l7 + 1688ull;
+    t0 = l7 + 1960ull;
     MEMORY_FILL(m, t0, 0u, 152ull);
     w0 = l4 < 9ull;
     if (w0) goto L48;
@@ -6050,80 +6069,110 @@ static void f33(Machine *m, u64 l0, u64 l1, u32 l2, u64 l3, u64 l4, u64 l5, u64 
     l2 = 0u;
     goto L23;
     L48:;
+    t0 = l7 + 1520ull;
+    l9 = t0;
     w0 = l4 < 7ull;
     if (w0) goto L49;
     l21 = 0u;
-    t0 = l7 + 1840ull;
+    t0 = l7 + 2112ull;
     MEMORY_FILL(m, t0, 0u, 144ull);
-    t0 = I64_LOAD(m, l7 + 1616u);
-    l9 = t0;
-    I32_STORE(m, l7 + 2039u, 0u);
+    t0 = I64_LOAD(m, l7 + 1768u);
+    l18 = t0;
+    I32_STORE(m, l7 + 2311u, 0u);
     l17 = 0ull;
-    I64_STORE(m, l7 + 2032u, 0ull);
-    I64_STORE(m, l7 + 2024u, 0ull);
-    I64_STORE(m, l7 + 2016u, 0ull);
-    t0 = l7 + 2016ull;
-    t1 = l7 + 1408ull;
+    I64_STORE(m, l7 + 2304u, 0ull);
+    I64_STORE(m, l7 + 2296u, 0ull);
+    I64_STORE(m, l7 + 2288u, 0ull);
+    t0 = l7 + 2288ull;
     w0 = l14 & 255u;
-    t2 = w0 ? l9 : l3;
-    l9 = t2;
-    f40(m, t0, t1, l9, l4);
-    t0 = I64_LOAD(m, l7 + 2017u);
-    I64_STORE(m, l7 + 1984u, t0);
-    t0 = I64_LOAD(m, l7 + 2025u);
-    I64_STORE(m, l7 + 1992u, t0);
-    t0 = I64_LOAD(m, l7 + 2033u);
-    I64_STORE(m, l7 + 2000u, t0);
-    w0 = I32_LOAD16_U(m, l7 + 2041u);
-    I32_STORE16(m, l7 + 2008u, w0);
-    w0 = I32_LOAD8_U(m, l7 + 2016u);
+    t1 = w0 ? l18 : l3;
+    l3 = t1;
+    f40(m, t0, l9, l3, l4);
+    t0 = I64_LOAD(m, l7 + 2289u);
+    I64_STORE(m, l7 + 2256u, t0);
+    t0 = I64_LOAD(m, l7 + 2297u);
+    I64_STORE(m, l7 + 2264u, t0);
+    t0 = I64_LOAD(m, l7 + 2305u);
+    I64_STORE(m, l7 + 2272u, t0);
+    w0 = I32_LOAD16_U(m, l7 + 2313u);
+    I32_STORE16(m, l7 + 2280u, w0);
+    w0 = I32_LOAD8_U(m, l7 + 2288u);
     w0 = w0 != 1u;
     if (w0) goto L39;
-    t0 = l7 + 1840ull;
-    t1 = l7 + 848ull;
-    t2 = l7 + 1984ull;
-    f41(m, t0, t1, l9, l4, t2);
-    w0 = I32_LOAD8_U(m, l7 + 1840u);
+    t0 = l7 + 2112ull;
+    t1 = l7 + 840ull;
+    t2 = l7 + 2256ull;
+    f41(m, t0, t1, l3, l4, t2);
+    w0 = I32_LOAD8_U(m, l7 + 2112u);
     if (w0) goto L50;
-    w0 = I32_LOAD8_U(m, l7 + 1848u);
+    w0 = I32_LOAD8_U(m, l7 + 2120u);
     l2 = w0;
-    t0 = l7 + 1712ull;
-    t1 = l7 + 1856ull;
+    t0 = l7 + 1984ull;
+    t1 = l7 + 2128ull;
     MEMORY_COPY(m, t0, t1, 128ull);
     l8 = 1u;
-    t0 = I64_LOAD(m, l7 + 1832u);
+    t0 = I64_LOAD(m, l7 + 2104u);
     l17 = t0;
     goto L24;
     L50:;
     l2 = 0u;
-    t0 = l7 + 1696ull;
+    t0 = l7 + 1968ull;
     MEMORY_FILL(m, t0, 0u, 144ull);
     l21 = 1u;
     goto L25;
     L49:;
-    t0 = l7 + 1688ull;
-    t1 = l7 + 848ull;
-    t2 = l7 + 1408ull;
-    t3 = l7 + 1608ull;
-    t4 = l7 + 1568ull;
-    f42(m, t0, t1, l13, t2, t3, t4);
-    w0 = I32_LOAD8_U(m, l7 + 1704u);
+    t0 = l7 + 1960ull;
+    t1 = l7 + 840ull;
+    t2 = l7 + 1760ull;
+    t3 = l7 + 1720ull;
+    f42(m, t0, t1, l13, l9, t2, t3);
+    w0 = I32_LOAD8_U(m, l7 + 1976u);
     l2 = w0;
-    w0 = I32_LOAD8_U(m, l7 + 1696u);
+    w0 = I32_LOAD8_U(m, l7 + 1968u);
     l8 = w0;
-    w0 = I32_LOAD8_U(m, l7 + 1688u);
+    w0 = I32_LOAD8_U(m, l7 + 1960u);
     l21 = w0;
     t0 = l7 + 1840ull;
-    t1 = l7 + 1712ull;
+    t1 = l7 + 1984ull;
     MEMORY_COPY(m, t0, t1, 120ull);
-    t0 = I64_LOAD(m, l7 + 1832u);
+    t0 = I64_LOAD(m, l7 + 2104u);
     l17 = t0;
     goto L23;
     L45:;
     w0 = l14 & 255u;
     w0 = w0 != 1u;
     if (w0) goto L19;
-    f43(m, l9);
+    t0 = I64_LOAD(m, l7 + 1784u);
+    l3 = t0;
+    w0 = l3 == 0;
+    if (w0) goto L19;
+    t0 = I64_LOAD(m, l7 + 1792u);
+    t0 = I64_LOAD(m, t0);
+    l4 = t0;
+    t0 = l4 + 16ull;
+    t0 = I64_LOAD(m, t0);
+    w0 = t0 != 1ull;
+    if (w0) goto L51;
+    t0 = l4 + 8ull;
+    t0 = I64_LOAD(m, t0);
+    l13 = t0;
+    t0 = I64_LOAD(m, l13);
+    t1 = l13 + 32ull;
+    l13 = t1;
+    t1 = I64_LOAD(m, l13);
+    l17 = t1;
+    t0 = t0 + l17;
+    w0 = l9 != t0;
+    if (w0) goto L51;
+    t0 = l3 << 3;
+    t0 = l17 + t0;
+    I64_STORE(m, l13, t0);
+    L51:;
+    t0 = l4 + 24ull;
+    l4 = t0;
+    t0 = I64_LOAD(m, l4);
+    t0 = t0 + 18446744073709551615ull;
+    I64_STORE(m, l4, t0);
     goto L19;
     L43:;
     w0 = l11 == 0;
@@ -6131,7 +6180,7 @@ static void f33(Machine *m, u64 l0, u64 l1, u32 l2, u64 l3, u64 l4, u64 l5, u64 
     t0 = l12 + 16ull;
     t0 = I64_LOAD(m, t0);
     w0 = t0 != 1ull;
-    if (w0) goto L51;
+    if (w0) goto L52;
     t0 = l12 + 8ull;
     t0 = I64_LOAD(m, t0);
     l4 = t0;
@@ -6142,10 +6191,10 @@ static void f33(Machine *m, u64 l0, u64 l1, u32 l2, u64 l3, u64 l4, u64 l5, u64 
     l3 = t1;
     t0 = t0 + l3;
     w0 = l10 != t0;
-    if (w0) goto L51;
+    if (w0) goto L52;
     t0 = l3 + l11;
     I64_STORE(m, l4, t0);
-    L51:;
+    L52:;
     t0 = l12 + 24ull;
     l4 = t0;
     t0 = I64_LOAD(m, l4);
@@ -6153,128 +6202,148 @@ static void f33(Machine *m, u64 l0, u64 l1, u32 l2, u64 l3, u64 l4, u64 l5, u64 
     I64_STORE(m, l4, t0);
     goto L18;
     L42:;
+    I64_STORE(m, l7 + 848u, 0ull);
     I64_STORE(m, l7 + 856u, 0ull);
-    I64_STORE(m, l7 + 864u, 0ull);
-    I32_STORE(m, l7 + 871u, 0u);
-    t0 = l7 + 424ull;
-    I64_STORE(m, l7 + 848u, t0);
+    I32_STORE(m, l7 + 863u, 0u);
+    t0 = l7 + 416ull;
+    I64_STORE(m, l7 + 840u, t0);
+    I64_STORE(m, l7 + 1024u, 0ull);
     I64_STORE(m, l7 + 1032u, 0ull);
-    I64_STORE(m, l7 + 1040u, 0ull);
-    I32_STORE(m, l7 + 1047u, 0u);
-    t0 = l7 + 960ull;
+    I32_STORE(m, l7 + 1039u, 0u);
+    t0 = l7 + 952ull;
     MEMORY_FILL(m, t0, 0u, 72ull);
-    I64_STORE(m, l7 + 952u, 0ull);
     I64_STORE(m, l7 + 944u, 0ull);
     I64_STORE(m, l7 + 936u, 0ull);
     I64_STORE(m, l7 + 928u, 0ull);
     I64_STORE(m, l7 + 920u, 0ull);
+    I64_STORE(m, l7 + 912u, 0ull);
+    I64_STORE(m, l7 + 872u, 0ull);
     I64_STORE(m, l7 + 880u, 0ull);
     I64_STORE(m, l7 + 888u, 0ull);
     I64_STORE(m, l7 + 896u, 0ull);
     I64_STORE(m, l7 + 904u, 0ull);
-    I64_STORE(m, l7 + 912u, 0ull);
-    t0 = l7 + 960ull;
+    t0 = l7 + 952ull;
     f34(m, t0, 1u, l3, l4);
-    t0 = I64_LOAD(m, l7 + 992u);
-    l4 = t0;
     t0 = I64_LOAD(m, l7 + 984u);
-    l18 = t0;
+    l4 = t0;
     t0 = I64_LOAD(m, l7 + 976u);
-    l9 = t0;
+    l18 = t0;
     t0 = I64_LOAD(m, l7 + 968u);
+    l9 = t0;
+    t0 = I64_LOAD(m, l7 + 960u);
     l3 = t0;
-    w0 = I32_LOAD8_U(m, l7 + 960u);
+    w0 = I32_LOAD8_U(m, l7 + 952u);
     if (w0) goto L38;
-    t0 = l7 + 920ull;
-    t1 = l7 + 424ull;
+    t0 = l7 + 912ull;
+    t1 = l7 + 416ull;
     f35(m, t0, t1, l18, l4);
-    w0 = I32_LOAD8_U(m, l7 + 920u);
+    w0 = I32_LOAD8_U(m, l7 + 912u);
     if (w0) goto L28;
-    t0 = I64_LOAD(m, l7 + 952u);
-    l12 = t0;
     t0 = I64_LOAD(m, l7 + 944u);
-    l11 = t0;
+    l12 = t0;
     t0 = I64_LOAD(m, l7 + 936u);
-    l13 = t0;
+    l11 = t0;
     t0 = I64_LOAD(m, l7 + 928u);
+    l13 = t0;
+    t0 = I64_LOAD(m, l7 + 920u);
     l10 = t0;
-    t0 = l7 + 880ull;
-    t1 = I64_LOAD(m, l7 + 848u);
+    t0 = l7 + 872ull;
+    t1 = I64_LOAD(m, l7 + 840u);
     f36(m, t0, t1, l18, l4);
-    w0 = I32_LOAD8_U(m, l7 + 880u);
-    if (w0) goto L52;
-    t0 = I64_LOAD(m, l7 + 912u);
-    l15 = t0;
+    w0 = I32_LOAD8_U(m, l7 + 872u);
+    if (w0) goto L53;
     t0 = I64_LOAD(m, l7 + 904u);
-    l16 = t0;
-    t0 = I64_LOAD(m, l7 + 888u);
-    l19 = t0;
+    l15 = t0;
     t0 = I64_LOAD(m, l7 + 896u);
+    l16 = t0;
+    t0 = I64_LOAD(m, l7 + 880u);
+    l19 = t0;
+    t0 = I64_LOAD(m, l7 + 888u);
     l4 = t0;
     l2 = 0u;
-    t0 = l7 + 1216ull;
+    t0 = l7 + 1208ull;
     MEMORY_FILL(m, t0, 0u, 136ull);
     l17 = 0ull;
-    I64_STORE(m, l7 + 1088u, 0ull);
     I64_STORE(m, l7 + 1080u, 0ull);
     I64_STORE(m, l7 + 1072u, 0ull);
     I64_STORE(m, l7 + 1064u, 0ull);
     I64_STORE(m, l7 + 1056u, 0ull);
-    I32_STORE(m, l7 + 1399u, 0u);
-    I64_STORE(m, l7 + 1392u, 0ull);
+    I64_STORE(m, l7 + 1048u, 0ull);
+    I32_STORE(m, l7 + 1391u, 0u);
     I64_STORE(m, l7 + 1384u, 0ull);
     I64_STORE(m, l7 + 1376u, 0ull);
     I64_STORE(m, l7 + 1368u, 0ull);
     I64_STORE(m, l7 + 1360u, 0ull);
     I64_STORE(m, l7 + 1352u, 0ull);
+    I64_STORE(m, l7 + 1344u, 0ull);
     w0 = l4 < 9ull;
-    if (w0) goto L53;
-    t0 = l7 + 1096ull;
+    if (w0) goto L54;
+    t0 = l7 + 1088ull;
     MEMORY_FILL(m, t0, 0u, 120ull);
     l8 = 0u;
     goto L32;
-    L53:;
-    t0 = l7 + 1352ull;
+    L54:;
+    t0 = l7 + 1344ull;
     f13(m, t0, l3, l9, l10, l13);
     l8 = 1u;
-    w0 = I32_LOAD8_U(m, l7 + 1352u);
+    w0 = I32_LOAD8_U(m, l7 + 1344u);
     w0 = w0 != 1u;
     if (w0) goto L37;
-    I32_STORE8(m, l7 + 1432u, 0u);
-    I64_STORE(m, l7 + 1424u, 0ull);
-    I64_STORE(m, l7 + 1416u, 0ull);
-    I64_STORE(m, l7 + 1408u, 0ull);
-    t0 = l7 + 1408ull;
-    t1 = l7 + 1352ull;
+    I32_STORE8(m, l7 + 1584u, 0u);
+    I64_STORE(m, l7 + 1576u, 0ull);
+    I64_STORE(m, l7 + 1568u, 0ull);
+    I64_STORE(m, l7 + 1560u, 0ull);
+    t0 = l7 + 1560ull;
+    t1 = l7 + 1344ull;
     t1 = t1 | 1ull;
     f37(m, t0, t1);
-    t0 = l7 + 1472ull;
+    t0 = l7 + 1400ull;
+    MEMORY_FILL(m, t0, 0u, 72ull);
+    I64_STORE(m, l7 + 1480u, 0ull);
+    I64_STORE(m, l7 + 1488u, 0ull);
+    I64_STORE(m, l7 + 1496u, 0ull);
+    I64_STORE(m, l7 + 1504u, 0ull);
+    I32_STORE(m, l7 + 1545u, 0u);
+    I32_STORE(m, l7 + 1548u, 0u);
+    I64_STORE(m, l7 + 1552u, l13);
+    t0 = I64_LOAD(m, l7 + 1560u);
+    I64_STORE(m, l7 + 1520u, t0);
+    t0 = I64_LOAD(m, l7 + 1568u);
+    I64_STORE(m, l7 + 1528u, t0);
+    t0 = I64_LOAD(m, l7 + 1576u);
+    I64_STORE(m, l7 + 1536u, t0);
+    w0 = I32_LOAD8_U(m, l7 + 1584u);
+    I32_STORE8(m, l7 + 1544u, w0);
+    t0 = l7 + 840ull;
+    I64_STORE(m, l7 + 1472u, t0);
+    t0 = l7 + 840ull;
+    I64_STORE(m, l7 + 1512u, t0);
+    t0 = l7 + 1624ull;
     MEMORY_FILL(m, t0, 0u, 96ull);
-    t0 = l7 + 1472ull;
-    t1 = l7 + 848ull;
+    t0 = l7 + 1624ull;
+    t1 = l7 + 840ull;
     f38(m, t0, t1, l19, l4, l13);
-    w0 = I32_LOAD8_U(m, l7 + 1472u);
+    w0 = I32_LOAD8_U(m, l7 + 1624u);
     if (w0) goto L29;
-    w0 = I32_LOAD8_U(m, l7 + 1480u);
+    w0 = I32_LOAD8_U(m, l7 + 1632u);
     w0 = w0 != 1u;
     if (w0) goto L31;
-    w0 = I32_LOAD8_U(m, l7 + 1488u);
+    w0 = I32_LOAD8_U(m, l7 + 1640u);
     l14 = w0;
     t0 = (u64)l14;
     t0 = t0 & 255ull;
-    I64_STORE(m, l7 + 1608u, t0);
-    t0 = l7 + 1616ull;
+    I64_STORE(m, l7 + 1760u, t0);
+    t0 = l7 + 1768ull;
     l3 = t0;
-    t0 = l7 + 1496ull;
-    l9 = t0;
-    MEMORY_COPY(m, l3, l9, 72ull);
-    I64_STORE(m, l7 + 1728u, 0ull);
-    I64_STORE(m, l7 + 1720u, 0ull);
-    I64_STORE(m, l7 + 1712u, 0ull);
-    I64_STORE(m, l7 + 1704u, 0ull);
-    I64_STORE(m, l7 + 1696u, 0ull);
-    I64_STORE(m, l7 + 1688u, 0ull);
-    t0 = l7 + 1608ull;
+    t0 = l7 + 1648ull;
+    MEMORY_COPY(m, l3, t0, 72ull);
+    I64_STORE(m, l7 + 2000u, 0ull);
+    I64_STORE(m, l7 + 1992u, 0ull);
+    I64_STORE(m, l7 + 1984u, 0ull);
+    I64_STORE(m, l7 + 1976u, 0ull);
+    I64_STORE(m, l7 + 1968u, 0ull);
+    I64_STORE(m, l7 + 1960u, 0ull);
+    t0 = l7 + 1760ull;
     w0 = l14 & 255u;
     l2 = w0;
     t1 = l2 ? 16ull : 64ull;
@@ -6283,138 +6352,169 @@ static void f33(Machine *m, u64 l0, u64 l1, u32 l2, u64 l3, u64 l4, u64 l5, u64 
     l4 = t0;
     t0 = l4 + 18446744073709551609ull;
     w0 = t0 > 1ull;
-    if (w0) goto L56;
-    I64_STORE(m, l7 + 1440u, 0ull);
-    I64_STORE(m, l7 + 1448u, 0ull);
-    I64_STORE(m, l7 + 1456u, 0ull);
-    t0 = l7 + 848ull;
-    I64_STORE(m, l7 + 1464u, t0);
+    if (w0) goto L57;
+    I64_STORE(m, l7 + 1592u, 0ull);
+    I64_STORE(m, l7 + 1600u, 0ull);
+    I64_STORE(m, l7 + 1608u, 0ull);
+    t0 = l7 + 840ull;
+    I64_STORE(m, l7 + 1616u, t0);
     l20 = 0u;
-    goto L55;
-    L56:;
-    t0 = l7 + 1688ull;
-    t1 = l7 + 848ull;
-    t2 = I64_LOAD(m, l7 + 1616u);
-    t2 = l2 ? t2 : l3;
+    goto L56;
+    L57:;
+    t0 = l7 + 1960ull;
+    t1 = l7 + 840ull;
+    t2 = I64_LOAD(m, l7 + 1768u);
+    l9 = t2;
+    t2 = l2 ? l9 : l3;
     f39(m, t0, t1, 1561u, t2, l4);
-    t0 = I64_LOAD(m, l7 + 1704u);
-    I64_STORE(m, l7 + 1440u, t0);
-    t0 = I64_LOAD(m, l7 + 1712u);
-    I64_STORE(m, l7 + 1448u, t0);
-    t0 = I64_LOAD(m, l7 + 1720u);
-    I64_STORE(m, l7 + 1456u, t0);
-    t0 = I64_LOAD(m, l7 + 1728u);
-    I64_STORE(m, l7 + 1464u, t0);
-    w0 = I32_LOAD8_U(m, l7 + 1688u);
-    if (w0) goto L54;
-    w0 = I32_LOAD8_U(m, l7 + 1696u);
-    l20 = w0;
-    L55:;
-    t0 = I64_LOAD(m, l7 + 1440u);
-    I64_STORE(m, l7 + 1576u, t0);
-    t0 = I64_LOAD(m, l7 + 1448u);
-    I64_STORE(m, l7 + 1584u, t0);
-    t0 = I64_LOAD(m, l7 + 1456u);
+    t0 = I64_LOAD(m, l7 + 1976u);
     I64_STORE(m, l7 + 1592u, t0);
-    t0 = I64_LOAD(m, l7 + 1464u);
+    t0 = I64_LOAD(m, l7 + 1984u);
     I64_STORE(m, l7 + 1600u, t0);
+    t0 = I64_LOAD(m, l7 + 1992u);
+    I64_STORE(m, l7 + 1608u, t0);
+    t0 = I64_LOAD(m, l7 + 2000u);
+    I64_STORE(m, l7 + 1616u, t0);
+    w0 = I32_LOAD8_U(m, l7 + 1960u);
+    if (w0) goto L55;
+    w0 = I32_LOAD8_U(m, l7 + 1968u);
+    l20 = w0;
+    L56:;
+    t0 = I64_LOAD(m, l7 + 1592u);
+    I64_STORE(m, l7 + 1728u, t0);
+    t0 = I64_LOAD(m, l7 + 1600u);
+    I64_STORE(m, l7 + 1736u, t0);
+    t0 = I64_LOAD(m, l7 + 1608u);
+    I64_STORE(m, l7 + 1744u, t0);
+    t0 = I64_LOAD(m, l7 + 1616u);
+    I64_STORE(m, l7 + 1752u, t0);
     t0 = (u64)l20;
     t0 = t0 & 255ull;
-    I64_STORE(m, l7 + 1568u, t0);
+    I64_STORE(m, l7 + 1720u, t0);
     l21 = 0u;
-    t0 = l7 + 1688ull;
+    t0 = l7 + 1960ull;
     MEMORY_FILL(m, t0, 0u, 152ull);
     w0 = l4 < 9ull;
-    if (w0) goto L57;
+    if (w0) goto L58;
     t0 = l7 + 1840ull;
     MEMORY_FILL(m, t0, 0u, 120ull);
     l17 = 0ull;
     l8 = 0u;
     l2 = 0u;
     goto L33;
-    L57:;
-    w0 = l4 < 7ull;
-    if (w0) goto L58;
-    l21 = 0u;
-    t0 = l7 + 1840ull;
-    MEMORY_FILL(m, t0, 0u, 144ull);
-    t0 = I64_LOAD(m, l7 + 1616u);
+    L58:;
+    t0 = l7 + 1520ull;
     l9 = t0;
-    I32_STORE(m, l7 + 2039u, 0u);
+    w0 = l4 < 7ull;
+    if (w0) goto L59;
+    l21 = 0u;
+    t0 = l7 + 2112ull;
+    MEMORY_FILL(m, t0, 0u, 144ull);
+    t0 = I64_LOAD(m, l7 + 1768u);
+    l18 = t0;
+    I32_STORE(m, l7 + 2311u, 0u);
     l17 = 0ull;
-    I64_STORE(m, l7 + 2032u, 0ull);
-    I64_STORE(m, l7 + 2024u, 0ull);
-    I64_STORE(m, l7 + 2016u, 0ull);
-    t0 = l7 + 2016ull;
-    t1 = l7 + 1408ull;
+    I64_STORE(m, l7 + 2304u, 0ull);
+    I64_STORE(m, l7 + 2296u, 0ull);
+    I64_STORE(m, l7 + 2288u, 0ull);
+    t0 = l7 + 2288ull;
     w0 = l14 & 255u;
-    t2 = w0 ? l9 : l3;
-    l9 = t2;
-    f44(m, t0, t1, l9, l4);
-    t0 = I64_LOAD(m, l7 + 2017u);
-    I64_STORE(m, l7 + 1984u, t0);
-    t0 = I64_LOAD(m, l7 + 2025u);
-    I64_STORE(m, l7 + 1992u, t0);
-    t0 = I64_LOAD(m, l7 + 2033u);
-    I64_STORE(m, l7 + 2000u, t0);
-    w0 = I32_LOAD16_U(m, l7 + 2041u);
-    I32_STORE16(m, l7 + 2008u, w0);
-    w0 = I32_LOAD8_U(m, l7 + 2016u);
+    t1 = w0 ? l18 : l3;
+    l3 = t1;
+    f43(m, t0, l9, l3, l4);
+    t0 = I64_LOAD(m, l7 + 2289u);
+    I64_STORE(m, l7 + 2256u, t0);
+    t0 = I64_LOAD(m, l7 + 2297u);
+    I64_STORE(m, l7 + 2264u, t0);
+    t0 = I64_LOAD(m, l7 + 2305u);
+    I64_STORE(m, l7 + 2272u, t0);
+    w0 = I32_LOAD16_U(m, l7 + 2313u);
+    I32_STORE16(m, l7 + 2280u, w0);
+    w0 = I32_LOAD8_U(m, l7 + 2288u);
     w0 = w0 != 1u;
     if (w0) goto L36;
-    t0 = l7 + 1840ull;
-    t1 = l7 + 848ull;
-    t2 = l7 + 1984ull;
-    f41(m, t0, t1, l9, l4, t2);
-    w0 = I32_LOAD8_U(m, l7 + 1840u);
-    if (w0) goto L59;
-    w0 = I32_LOAD8_U(m, l7 + 1848u);
+    t0 = l7 + 2112ull;
+    t1 = l7 + 840ull;
+    t2 = l7 + 2256ull;
+    f41(m, t0, t1, l3, l4, t2);
+    w0 = I32_LOAD8_U(m, l7 + 2112u);
+    if (w0) goto L60;
+    w0 = I32_LOAD8_U(m, l7 + 2120u);
     l2 = w0;
-    t0 = l7 + 1712ull;
-    t1 = l7 + 1856ull;
+    t0 = l7 + 1984ull;
+    t1 = l7 + 2128ull;
     MEMORY_COPY(m, t0, t1, 128ull);
     l8 = 1u;
-    t0 = I64_LOAD(m, l7 + 1832u);
+    t0 = I64_LOAD(m, l7 + 2104u);
     l17 = t0;
     goto L34;
-    L59:;
+    L60:;
     l2 = 0u;
-    t0 = l7 + 1696ull;
+    t0 = l7 + 1968ull;
     MEMORY_FILL(m, t0, 0u, 144ull);
     l21 = 1u;
     goto L35;
-    L58:;
-    t0 = l7 + 1688ull;
-    t1 = l7 + 848ull;
-    t2 = l7 + 1408ull;
-    t3 = l7 + 1608ull;
-    t4 = l7 + 1568ull;
-    f45(m, t0, t1, l13, t2, t3, t4);
-    w0 = I32_LOAD8_U(m, l7 + 1704u);
+    L59:;
+    t0 = l7 + 1960ull;
+    t1 = l7 + 840ull;
+    t2 = l7 + 1760ull;
+    t3 = l7 + 1720ull;
+    f44(m, t0, t1, l13, l9, t2, t3);
+    w0 = I32_LOAD8_U(m, l7 + 1976u);
     l2 = w0;
-    w0 = I32_LOAD8_U(m, l7 + 1696u);
+    w0 = I32_LOAD8_U(m, l7 + 1968u);
     l8 = w0;
-    w0 = I32_LOAD8_U(m, l7 + 1688u);
+    w0 = I32_LOAD8_U(m, l7 + 1960u);
     l21 = w0;
     t0 = l7 + 1840ull;
-    t1 = l7 + 1712ull;
+    t1 = l7 + 1984ull;
     MEMORY_COPY(m, t0, t1, 120ull);
-    t0 = I64_LOAD(m, l7 + 1832u);
+    t0 = I64_LOAD(m, l7 + 2104u);
     l17 = t0;
     goto L33;
-    L54:;
+    L55:;
     w0 = l14 & 255u;
     w0 = w0 != 1u;
     if (w0) goto L29;
-    f43(m, l9);
+    t0 = I64_LOAD(m, l7 + 1784u);
+    l3 = t0;
+    w0 = l3 == 0;
+    if (w0) goto L29;
+    t0 = I64_LOAD(m, l7 + 1792u);
+    t0 = I64_LOAD(m, t0);
+    l4 = t0;
+    t0 = l4 + 16ull;
+    t0 = I64_LOAD(m, t0);
+    w0 = t0 != 1ull;
+    if (w0) goto L61;
+    t0 = l4 + 8ull;
+    t0 = I64_LOAD(m, t0);
+    l13 = t0;
+    t0 = I64_LOAD(m, l13);
+    t1 = l13 + 32ull;
+    l13 = t1;
+    t1 = I64_LOAD(m, l13);
+    l17 = t1;
+    t0 = t0 + l17;
+    w0 = l9 != t0;
+    if (w0) goto L61;
+    t0 = l3 << 3;
+    t0 = l17 + t0;
+    I64_STORE(m, l13, t0);
+    L61:;
+    t0 = l4 + 24ull;
+    l4 = t0;
+    t0 = I64_LOAD(m, l4);
+    t0 = t0 + 18446744073709551615ull;
+    I64_STORE(m, l4, t0);
     goto L29;
-    L52:;
+    L53:;
     w0 = l11 == 0;
     if (w0) goto L28;
     t0 = l12 + 16ull;
     t0 = I64_LOAD(m, t0);
     w0 = t0 != 1ull;
-    if (w0) goto L60;
+    if (w0) goto L62;
     t0 = l12 + 8ull;
     t0 = I64_LOAD(m, t0);
     l4 = t0;
@@ -6425,10 +6525,10 @@ static void f33(Machine *m, u64 l0, u64 l1, u32 l2, u64 l3, u64 l4, u64 l5, u64 
     l3 = t1;
     t0 = t0 + l3;
     w0 = l10 != t0;
-    if (w0) goto L60;
+    if (w0) goto L62;
     t0 = l3 + l11;
     I64_STORE(m, l4, t0);
-    L60:;
+    L62:;
     t0 = l12 + 24ull;
     l4 = t0;
     t0 = I64_LOAD(m, l4);
@@ -6436,77 +6536,138 @@ static void f33(Machine *m, u64 l0, u64 l1, u32 l2, u64 l3, u64 l4, u64 l5, u64 
     I64_STORE(m, l4, t0);
     goto L28;
     L41:;
+    t0 = I64_LOAD(m, l7 + 1000u);
+    I64_STORE(m, l7 + 848u, t0);
     t0 = I64_LOAD(m, l7 + 1008u);
     I64_STORE(m, l7 + 856u, t0);
-    t0 = I64_LOAD(m, l7 + 1016u);
-    I64_STORE(m, l7 + 864u, t0);
-    w0 = I32_LOAD(m, l7 + 1023u);
-    I32_STORE(m, l7 + 871u, w0);
+    w0 = I32_LOAD(m, l7 + 1015u);
+    I32_STORE(m, l7 + 863u, w0);
     t0 = l9 >> 8;
     l17 = t0;
     w0 = (u32)l9;
     l8 = w0;
     l2 = 1u;
-    t0 = I64_LOAD(m, l7 + 1000u);
+    t0 = I64_LOAD(m, l7 + 992u);
     l9 = t0;
     goto L16;
     L40:;
     l2 = 0u;
-    t0 = l7 + 1096ull;
+    t0 = l7 + 1088ull;
     MEMORY_FILL(m, t0, 0u, 120ull);
-    t0 = l7 + 848ull;
+    t0 = l7 + 840ull;
     l17 = t0;
     goto L22;
     L39:;
-    t0 = l7 + 1696ull;
+    t0 = l7 + 1968ull;
     MEMORY_FILL(m, t0, 0u, 144ull);
     l2 = 0u;
     goto L25;
     L38:;
+    t0 = I64_LOAD(m, l7 + 1000u);
+    I64_STORE(m, l7 + 848u, t0);
     t0 = I64_LOAD(m, l7 + 1008u);
     I64_STORE(m, l7 + 856u, t0);
-    t0 = I64_LOAD(m, l7 + 1016u);
-    I64_STORE(m, l7 + 864u, t0);
-    w0 = I32_LOAD(m, l7 + 1023u);
-    I32_STORE(m, l7 + 871u, w0);
+    w0 = I32_LOAD(m, l7 + 1015u);
+    I32_STORE(m, l7 + 863u, w0);
     t0 = l9 >> 8;
     l17 = t0;
     w0 = (u32)l9;
     l8 = w0;
     l2 = 1u;
-    t0 = I64_LOAD(m, l7 + 1000u);
+    t0 = I64_LOAD(m, l7 + 992u);
     l9 = t0;
     goto L26;
     L37:;
     l2 = 0u;
-    t0 = l7 + 1096ull;
+    t0 = l7 + 1088ull;
     MEMORY_FILL(m, t0, 0u, 120ull);
-    t0 = l7 + 848ull;
+    t0 = l7 + 840ull;
     l17 = t0;
     goto L32;
     L36:;
-    t0 = l7 + 1696ull;
+    t0 = l7 + 1968ull;
     MEMORY_FILL(m, t0, 0u, 144ull);
     l2 = 0u;
     L35:;
     l8 = 0u;
     L34:;
     t0 = l7 + 1840ull;
-    t1 = l7 + 1712ull;
+    t1 = l7 + 1984ull;
     MEMORY_COPY(m, t0, t1, 120ull);
     L33:;
     w0 = l20 & 255u;
     w0 = w0 != 1u;
-    if (w0) goto L61;
-    t0 = l7 + 1576ull;
-    f46(m, t0);
-    L61:;
+    if (w0) goto L63;
+    t0 = I64_LOAD(m, l7 + 1744u);
+    l3 = t0;
+    w0 = l3 == 0;
+    if (w0) goto L63;
+    t0 = I64_LOAD(m, l7 + 1752u);
+    t0 = I64_LOAD(m, t0);
+    l4 = t0;
+    t0 = l4 + 16ull;
+    t0 = I64_LOAD(m, t0);
+    w0 = t0 != 1ull;
+    if (w0) goto L64;
+    t0 = I64_LOAD(m, l7 + 1728u);
+    t1 = l4 + 8ull;
+    t1 = I64_LOAD(m, t1);
+    l9 = t1;
+    t1 = I64_LOAD(m, l9);
+    t2 = l9 + 32ull;
+    l9 = t2;
+    t2 = I64_LOAD(m, l9);
+    l18 = t2;
+    t1 = t1 + l18;
+    w0 = t0 != t1;
+    if (w0) goto L64;
+    t0 = l3 << 1;
+    t0 = l18 + t0;
+    I64_STORE(m, l9, t0);
+    L64:;
+    t0 = l4 + 24ull;
+    l4 = t0;
+    t0 = I64_LOAD(m, l4);
+    t0 = t0 + 18446744073709551615ull;
+    I64_STORE(m, l4, t0);
+    L63:;
     w0 = l14 & 255u;
     w0 = w0 != 1u;
-    if (w0) goto L62;
-    f43(m, l3);
-    L62:;
-    t0 = l7 + 1096ull;
+    if (w0) goto L65;
+    t0 = I64_LOAD(m, l7 + 1784u);
+    l3 = t0;
+    w0 = l3 == 0;
+    if (w0) goto L65;
+    t0 = I64_LOAD(m, l7 + 1792u);
+    t0 = I64_LOAD(m, t0);
+    l4 = t0;
+    t0 = l4 + 16ull;
+    t0 = I64_LOAD(m, t0);
+    w0 = t0 != 1ull;
+    if (w0) goto L66;
+    t0 = I64_LOAD(m, l7 + 1768u);
+    t1 = l4 + 8ull;
+    t1 = I64_LOAD(m, t1);
+    l9 = t1;
+    t1 = I64_LOAD(m, l9);
+    t2 = l9 + 32ull;
+    l9 = t2;
+    t2 = I64_LOAD(m, l9);
+    l18 = t2;
+    t1 = t1 + l18;
+    w0 = t0 != t1;
+    if (w0) goto L66;
+    t0 = l3 << 3;
+    t0 = l18 + t0;
+    I64_STORE(m, l9, t0);
+    L66:;
+    t0 = l4 + 24ull;
+    l4 = t0;
+    t0 = I64_LOAD(m, l4);
+    t0 = t0 + 18446744073709551615ull;
+    I64_STORE(m, l4, t0);
+    L65:;
+    t0 = l7 + 1088ull;
     t1 = l7 + 1840ull;
     MEMORY_COPY(m, t0, t1, 120ull);
     w0 = l21 & 255u;
@@ -6526,40 +6687,40 @@ static void f33(Machine *m, u64 l0, u64 l1, u32 l2, u64 l3, u64 l4, u64 l5, u64 
     L30:;
     t0 = (u64)l2;
     t0 = t0 & 255ull;
-    I64_STORE(m, l7 + 1216u, t0);
-    t0 = l7 + 1224ull;
+    I64_STORE(m, l7 + 1208u, t0);
+    t0 = l7 + 1216ull;
     l4 = t0;
-    t0 = l7 + 1096ull;
+    t0 = l7 + 1088ull;
     MEMORY_COPY(m, l4, t0, 120ull);
-    I64_STORE(m, l7 + 1344u, l17);
-    t0 = l7 + 1056ull;
-    t1 = I64_LOAD(m, l7 + 848u);
-    t2 = I64_LOAD(m, l7 + 1224u);
+    I64_STORE(m, l7 + 1336u, l17);
+    t0 = l7 + 1048ull;
+    t1 = I64_LOAD(m, l7 + 840u);
+    t2 = I64_LOAD(m, l7 + 1216u);
     l3 = t2;
     w0 = l2 & 255u;
     l2 = w0;
     t2 = l2 ? l3 : l4;
-    t3 = l7 + 1216ull;
+    t3 = l7 + 1208ull;
     t4 = l2 ? 16ull : 120ull;
     t3 = t3 + t4;
     t3 = I64_LOAD(m, t3);
-    f47(m, t0, t1, l10, l13, t2, t3);
+    f45(m, t0, t1, l10, l13, t2, t3);
     w0 = l2 != 1u;
-    t0 = I64_LOAD(m, l7 + 1240u);
+    t0 = I64_LOAD(m, l7 + 1232u);
     l4 = t0;
     w1 = l4 == 0;
     w0 = w0 | w1;
     l2 = w0;
-    w0 = I32_LOAD8_U(m, l7 + 1056u);
-    if (w0) goto L63;
-    if (l2) goto L64;
-    t0 = I64_LOAD(m, l7 + 1248u);
+    w0 = I32_LOAD8_U(m, l7 + 1048u);
+    if (w0) goto L67;
+    if (l2) goto L68;
+    t0 = I64_LOAD(m, l7 + 1240u);
     t0 = I64_LOAD(m, t0);
     l9 = t0;
     t0 = l9 + 16ull;
     t0 = I64_LOAD(m, t0);
     w0 = t0 != 1ull;
-    if (w0) goto L65;
+    if (w0) goto L69;
     t0 = l9 + 8ull;
     t0 = I64_LOAD(m, t0);
     l13 = t0;
@@ -6570,46 +6731,46 @@ static void f33(Machine *m, u64 l0, u64 l1, u32 l2, u64 l3, u64 l4, u64 l5, u64 
     l17 = t1;
     t0 = t0 + l17;
     w0 = l3 != t0;
-    if (w0) goto L65;
+    if (w0) goto L69;
     t0 = l4 << 4;
     t0 = l17 + t0;
     I64_STORE(m, l13, t0);
-    L65:;
+    L69:;
     t0 = l9 + 24ull;
     l4 = t0;
     t0 = I64_LOAD(m, l4);
     t0 = t0 + 18446744073709551615ull;
     I64_STORE(m, l4, t0);
-    L64:;
-    t0 = I64_LOAD32_U(m, l7 + 1065u);
-    t1 = l7 + 1071ull;
+    L68:;
+    t0 = I64_LOAD32_U(m, l7 + 1057u);
+    t1 = l7 + 1063ull;
     t1 = I64_LOAD8_U(m, t1);
     t1 = t1 << 48;
-    t2 = l7 + 1069ull;
+    t2 = l7 + 1061ull;
     t2 = I64_LOAD16_U(m, t2);
     t2 = t2 << 32;
     t1 = t1 | t2;
     t0 = t0 | t1;
     l17 = t0;
     l3 = 1ull;
-    t0 = I64_LOAD(m, l7 + 1088u);
-    l9 = t0;
     t0 = I64_LOAD(m, l7 + 1080u);
-    l4 = t0;
+    l9 = t0;
     t0 = I64_LOAD(m, l7 + 1072u);
+    l4 = t0;
+    t0 = I64_LOAD(m, l7 + 1064u);
     l18 = t0;
-    w0 = I32_LOAD8_U(m, l7 + 1064u);
+    w0 = I32_LOAD8_U(m, l7 + 1056u);
     l8 = w0;
     goto L27;
-    L63:;
+    L67:;
     if (l2) goto L29;
-    t0 = I64_LOAD(m, l7 + 1248u);
+    t0 = I64_LOAD(m, l7 + 1240u);
     t0 = I64_LOAD(m, t0);
     l9 = t0;
     t0 = l9 + 16ull;
     t0 = I64_LOAD(m, t0);
     w0 = t0 != 1ull;
-    if (w0) goto L66;
+    if (w0) goto L70;
     t0 = l9 + 8ull;
     t0 = I64_LOAD(m, t0);
     l13 = t0;
@@ -6620,11 +6781,11 @@ static void f33(Machine *m, u64 l0, u64 l1, u32 l2, u64 l3, u64 l4, u64 l5, u64 
     l17 = t1;
     t0 = t0 + l17;
     w0 = l3 != t0;
-    if (w0) goto L66;
+    if (w0) goto L70;
     t0 = l4 << 4;
     t0 = l17 + t0;
     I64_STORE(m, l13, t0);
-    L66:;
+    L70:;
     t0 = l9 + 24ull;
     l4 = t0;
     t0 = I64_LOAD(m, l4);
@@ -6632,11 +6793,11 @@ static void f33(Machine *m, u64 l0, u64 l1, u32 l2, u64 l3, u64 l4, u64 l5, u64 
     I64_STORE(m, l4, t0);
     L29:;
     w0 = l16 == 0;
-    if (w0) goto L67;
+    if (w0) goto L71;
     t0 = l15 + 16ull;
     t0 = I64_LOAD(m, t0);
     w0 = t0 != 1ull;
-    if (w0) goto L68;
+    if (w0) goto L72;
     t0 = l15 + 8ull;
     t0 = I64_LOAD(m, t0);
     l4 = t0;
@@ -6647,23 +6808,23 @@ static void f33(Machine *m, u64 l0, u64 l1, u32 l2, u64 l3, u64 l4, u64 l5, u64 
     l3 = t1;
     t0 = t0 + l3;
     w0 = l19 != t0;
-    if (w0) goto L68;
+    if (w0) goto L72;
     t0 = l16 << 3;
     t0 = l3 + t0;
     I64_STORE(m, l4, t0);
-    L68:;
+    L72:;
     t0 = l15 + 24ull;
     l4 = t0;
     t0 = I64_LOAD(m, l4);
     t0 = t0 + 18446744073709551615ull;
     I64_STORE(m, l4, t0);
-    L67:;
+    L71:;
     w0 = l11 == 0;
     if (w0) goto L28;
     t0 = l12 + 16ull;
     t0 = I64_LOAD(m, t0);
     w0 = t0 != 1ull;
-    if (w0) goto L69;
+    if (w0) goto L73;
     t0 = l12 + 8ull;
     t0 = I64_LOAD(m, t0);
     l4 = t0;
@@ -6674,10 +6835,10 @@ static void f33(Machine *m, u64 l0, u64 l1, u32 l2, u64 l3, u64 l4, u64 l5, u64 
     l3 = t1;
     t0 = t0 + l3;
     w0 = l10 != t0;
-    if (w0) goto L69;
+    if (w0) goto L73;
     t0 = l3 + l11;
     I64_STORE(m, l4, t0);
-    L69:;
+    L73:;
     t0 = l12 + 24ull;
     l4 = t0;
     t0 = I64_LOAD(m, l4);
@@ -6685,10 +6846,10 @@ static void f33(Machine *m, u64 l0, u64 l1, u32 l2, u64 l3, u64 l4, u64 l5, u64 
     I64_STORE(m, l4, t0);
     L28:;
     l8 = 0u;
-    I32_STORE(m, l7 + 871u, 0u);
+    I32_STORE(m, l7 + 863u, 0u);
     l17 = 0ull;
-    I64_STORE(m, l7 + 864u, 0ull);
     I64_STORE(m, l7 + 856u, 0ull);
+    I64_STORE(m, l7 + 848u, 0ull);
     l3 = 6ull;
     l2 = 1u;
     l18 = 0ull;
@@ -6697,11 +6858,11 @@ static void f33(Machine *m, u64 l0, u64 l1, u32 l2, u64 l3, u64 l4, u64 l5, u64 
     goto L26;
     L27:;
     w0 = l16 == 0;
-    if (w0) goto L70;
+    if (w0) goto L74;
     t0 = l15 + 16ull;
     t0 = I64_LOAD(m, t0);
     w0 = t0 != 1ull;
-    if (w0) goto L71;
+    if (w0) goto L75;
     t0 = l15 + 8ull;
     t0 = I64_LOAD(m, t0);
     l13 = t0;
@@ -6712,23 +6873,23 @@ static void f33(Machine *m, u64 l0, u64 l1, u32 l2, u64 l3, u64 l4, u64 l5, u64 
     l22 = t1;
     t0 = t0 + l22;
     w0 = l19 != t0;
-    if (w0) goto L71;
+    if (w0) goto L75;
     t0 = l16 << 3;
     t0 = l22 + t0;
     I64_STORE(m, l13, t0);
-    L71:;
+    L75:;
     t0 = l15 + 24ull;
     l13 = t0;
     t0 = I64_LOAD(m, l13);
     t0 = t0 + 18446744073709551615ull;
     I64_STORE(m, l13, t0);
-    L70:;
+    L74:;
     w0 = l11 == 0;
-    if (w0) goto L72;
+    if (w0) goto L76;
     t0 = l12 + 16ull;
     t0 = I64_LOAD(m, t0);
     w0 = t0 != 1ull;
-    if (w0) goto L73;
+    if (w0) goto L77;
     t0 = l12 + 8ull;
     t0 = I64_LOAD(m, t0);
     l13 = t0;
@@ -6739,50 +6900,111 @@ static void f33(Machine *m, u64 l0, u64 l1, u32 l2, u64 l3, u64 l4, u64 l5, u64 
     l15 = t1;
     t0 = t0 + l15;
     w0 = l10 != t0;
-    if (w0) goto L73;
+    if (w0) goto L77;
     t0 = l15 + l11;
     I64_STORE(m, l13, t0);
-    L73:;
+    L77:;
     t0 = l12 + 24ull;
     l12 = t0;
     t0 = I64_LOAD(m, l12);
     t0 = t0 + 18446744073709551615ull;
     I64_STORE(m, l12, t0);
-    L72:;
-    w0 = I32_LOAD(m, l7 + 1047u);
-    I32_STORE(m, l7 + 871u, w0);
-    t0 = I64_LOAD(m, l7 + 1040u);
-    I64_STORE(m, l7 + 864u, t0);
+    L76:;
+    w0 = I32_LOAD(m, l7 + 1039u);
+    I32_STORE(m, l7 + 863u, w0);
     t0 = I64_LOAD(m, l7 + 1032u);
     I64_STORE(m, l7 + 856u, t0);
+    t0 = I64_LOAD(m, l7 + 1024u);
+    I64_STORE(m, l7 + 848u, t0);
     l2 = 0u;
     L26:;
+    t0 = I64_LOAD(m, l7 + 848u);
+    I64_STORE(m, l7 + 816u, t0);
     t0 = I64_LOAD(m, l7 + 856u);
     I64_STORE(m, l7 + 824u, t0);
-    t0 = I64_LOAD(m, l7 + 864u);
-    I64_STORE(m, l7 + 832u, t0);
-    w0 = I32_LOAD(m, l7 + 871u);
-    I32_STORE(m, l7 + 839u, w0);
+    w0 = I32_LOAD(m, l7 + 863u);
+    I32_STORE(m, l7 + 831u, w0);
     goto L15;
     L25:;
     l8 = 0u;
     L24:;
     t0 = l7 + 1840ull;
-    t1 = l7 + 1712ull;
+    t1 = l7 + 1984ull;
     MEMORY_COPY(m, t0, t1, 120ull);
     L23:;
     w0 = l20 & 255u;
     w0 = w0 != 1u;
-    if (w0) goto L74;
-    t0 = l7 + 1576ull;
-    f46(m, t0);
-    L74:;
+    if (w0) goto L78;
+    t0 = I64_LOAD(m, l7 + 1744u);
+    l3 = t0;
+    w0 = l3 == 0;
+    if (w0) goto L78;
+    t0 = I64_LOAD(m, l7 + 1752u);
+    t0 = I64_LOAD(m, t0);
+    l4 = t0;
+    t0 = l4 + 16ull;
+    t0 = I64_LOAD(m, t0);
+    w0 = t0 != 1ull;
+    if (w0) goto L79;
+    t0 = I64_LOAD(m, l7 + 1728u);
+    t1 = l4 + 8ull;
+    t1 = I64_LOAD(m, t1);
+    l9 = t1;
+    t1 = I64_LOAD(m, l9);
+    t2 = l9 + 32ull;
+    l9 = t2;
+    t2 = I64_LOAD(m, l9);
+    l18 = t2;
+    t1 = t1 + l18;
+    w0 = t0 != t1;
+    if (w0) goto L79;
+    t0 = l3 << 1;
+    t0 = l18 + t0;
+    I64_STORE(m, l9, t0);
+    L79:;
+    t0 = l4 + 24ull;
+    l4 = t0;
+    t0 = I64_LOAD(m, l4);
+    t0 = t0 + 18446744073709551615ull;
+    I64_STORE(m, l4, t0);
+    L78:;
     w0 = l14 & 255u;
     w0 = w0 != 1u;
-    if (w0) goto L75;
-    f43(m, l3);
-    L75:;
-    t0 = l7 + 1096ull;
+    if (w0) goto L80;
+    t0 = I64_LOAD(m, l7 + 1784u);
+    l3 = t0;
+    w0 = l3 == 0;
+    if (w0) goto L80;
+    t0 = I64_LOAD(m, l7 + 1792u);
+    t0 = I64_LOAD(m, t0);
+    l4 = t0;
+    t0 = l4 + 16ull;
+    t0 = I64_LOAD(m, t0);
+    w0 = t0 != 1ull;
+    if (w0) goto L81;
+    t0 = I64_LOAD(m, l7 + 1768u);
+    t1 = l4 + 8ull;
+    t1 = I64_LOAD(m, t1);
+    l9 = t1;
+    t1 = I64_LOAD(m, l9);
+    t2 = l9 + 32ull;
+    l9 = t2;
+    t2 = I64_LOAD(m, l9);
+    l18 = t2;
+    t1 = t1 + l18;
+    w0 = t0 != t1;
+    if (w0) goto L81;
+    t0 = l3 << 3;
+    t0 = l18 + t0;
+    I64_STORE(m, l9, t0);
+    L81:;
+    t0 = l4 + 24ull;
+    l4 = t0;
+    t0 = I64_LOAD(m, l4);
+    t0 = t0 + 18446744073709551615ull;
+    I64_STORE(m, l4, t0);
+    L80:;
+    t0 = l7 + 1088ull;
     t1 = l7 + 1840ull;
     MEMORY_COPY(m, t0, t1, 120ull);
     w0 = l21 & 255u;
@@ -6802,40 +7024,40 @@ static void f33(Machine *m, u64 l0, u64 l1, u32 l2, u64 l3, u64 l4, u64 l5, u64 
     L20:;
     t0 = (u64)l2;
     t0 = t0 & 255ull;
-    I64_STORE(m, l7 + 1216u, t0);
-    t0 = l7 + 1224ull;
+    I64_STORE(m, l7 + 1208u, t0);
+    t0 = l7 + 1216ull;
     l4 = t0;
-    t0 = l7 + 1096ull;
+    t0 = l7 + 1088ull;
     MEMORY_COPY(m, l4, t0, 120ull);
-    I64_STORE(m, l7 + 1344u, l17);
-    t0 = l7 + 1056ull;
-    t1 = I64_LOAD(m, l7 + 848u);
-    t2 = I64_LOAD(m, l7 + 1224u);
+    I64_STORE(m, l7 + 1336u, l17);
+    t0 = l7 + 1048ull;
+    t1 = I64_LOAD(m, l7 + 840u);
+    t2 = I64_LOAD(m, l7 + 1216u);
     l3 = t2;
     w0 = l2 & 255u;
     l2 = w0;
     t2 = l2 ? l3 : l4;
-    t3 = l7 + 1216ull;
+    t3 = l7 + 1208ull;
     t4 = l2 ? 16ull : 120ull;
     t3 = t3 + t4;
     t3 = I64_LOAD(m, t3);
-    f47(m, t0, t1, l10, l13, t2, t3);
+    f45(m, t0, t1, l10, l13, t2, t3);
     w0 = l2 != 1u;
-    t0 = I64_LOAD(m, l7 + 1240u);
+    t0 = I64_LOAD(m, l7 + 1232u);
     l4 = t0;
     w1 = l4 == 0;
     w0 = w0 | w1;
     l2 = w0;
-    w0 = I32_LOAD8_U(m, l7 + 1056u);
-    if (w0) goto L76;
-    if (l2) goto L77;
-    t0 = I64_LOAD(m, l7 + 1248u);
+    w0 = I32_LOAD8_U(m, l7 + 1048u);
+    if (w0) goto L82;
+    if (l2) goto L83;
+    t0 = I64_LOAD(m, l7 + 1240u);
     t0 = I64_LOAD(m, t0);
     l9 = t0;
     t0 = l9 + 16ull;
     t0 = I64_LOAD(m, t0);
     w0 = t0 != 1ull;
-    if (w0) goto L78;
+    if (w0) goto L84;
     t0 = l9 + 8ull;
     t0 = I64_LOAD(m, t0);
     l13 = t0;
@@ -6846,46 +7068,46 @@ static void f33(Machine *m, u64 l0, u64 l1, u32 l2, u64 l3, u64 l4, u64 l5, u64 
     l17 = t1;
     t0 = t0 + l17;
     w0 = l3 != t0;
-    if (w0) goto L78;
+    if (w0) goto L84;
     t0 = l4 << 4;
     t0 = l17 + t0;
     I64_STORE(m, l13, t0);
-    L78:;
+    L84:;
     t0 = l9 + 24ull;
     l4 = t0;
     t0 = I64_LOAD(m, l4);
     t0 = t0 + 18446744073709551615ull;
     I64_STORE(m, l4, t0);
-    L77:;
-    t0 = I64_LOAD32_U(m, l7 + 1065u);
-    t1 = l7 + 1071ull;
+    L83:;
+    t0 = I64_LOAD32_U(m, l7 + 1057u);
+    t1 = l7 + 1063ull;
     t1 = I64_LOAD8_U(m, t1);
     t1 = t1 << 48;
-    t2 = l7 + 1069ull;
+    t2 = l7 + 1061ull;
     t2 = I64_LOAD16_U(m, t2);
     t2 = t2 << 32;
     t1 = t1 | t2;
     t0 = t0 | t1;
     l17 = t0;
     l3 = 1ull;
-    t0 = I64_LOAD(m, l7 + 1088u);
-    l9 = t0;
     t0 = I64_LOAD(m, l7 + 1080u);
-    l4 = t0;
+    l9 = t0;
     t0 = I64_LOAD(m, l7 + 1072u);
+    l4 = t0;
+    t0 = I64_LOAD(m, l7 + 1064u);
     l18 = t0;
-    w0 = I32_LOAD8_U(m, l7 + 1064u);
+    w0 = I32_LOAD8_U(m, l7 + 1056u);
     l8 = w0;
     goto L17;
-    L76:;
+    L82:;
     if (l2) goto L19;
-    t0 = I64_LOAD(m, l7 + 1248u);
+    t0 = I64_LOAD(m, l7 + 1240u);
     t0 = I64_LOAD(m, t0);
     l9 = t0;
     t0 = l9 + 16ull;
     t0 = I64_LOAD(m, t0);
     w0 = t0 != 1ull;
-    if (w0) goto L79;
+    if (w0) goto L85;
     t0 = l9 + 8ull;
     t0 = I64_LOAD(m, t0);
     l13 = t0;
@@ -6896,11 +7118,11 @@ static void f33(Machine *m, u64 l0, u64 l1, u32 l2, u64 l3, u64 l4, u64 l5, u64 
     l17 = t1;
     t0 = t0 + l17;
     w0 = l3 != t0;
-    if (w0) goto L79;
+    if (w0) goto L85;
     t0 = l4 << 4;
     t0 = l17 + t0;
     I64_STORE(m, l13, t0);
-    L79:;
+    L85:;
     t0 = l9 + 24ull;
     l4 = t0;
     t0 = I64_LOAD(m, l4);
@@ -6908,11 +7130,11 @@ static void f33(Machine *m, u64 l0, u64 l1, u32 l2, u64 l3, u64 l4, u64 l5, u64 
     I64_STORE(m, l4, t0);
     L19:;
     w0 = l16 == 0;
-    if (w0) goto L80;
+    if (w0) goto L86;
     t0 = l15 + 16ull;
     t0 = I64_LOAD(m, t0);
     w0 = t0 != 1ull;
-    if (w0) goto L81;
+    if (w0) goto L87;
     t0 = l15 + 8ull;
     t0 = I64_LOAD(m, t0);
     l4 = t0;
@@ -6923,23 +7145,23 @@ static void f33(Machine *m, u64 l0, u64 l1, u32 l2, u64 l3, u64 l4, u64 l5, u64 
     l3 = t1;
     t0 = t0 + l3;
     w0 = l19 != t0;
-    if (w0) goto L81;
+    if (w0) goto L87;
     t0 = l16 << 3;
     t0 = l3 + t0;
     I64_STORE(m, l4, t0);
-    L81:;
+    L87:;
     t0 = l15 + 24ull;
     l4 = t0;
     t0 = I64_LOAD(m, l4);
     t0 = t0 + 18446744073709551615ull;
     I64_STORE(m, l4, t0);
-    L80:;
+    L86:;
     w0 = l11 == 0;
     if (w0) goto L18;
     t0 = l12 + 16ull;
     t0 = I64_LOAD(m, t0);
     w0 = t0 != 1ull;
-    if (w0) goto L82;
+    if (w0) goto L88;
     t0 = l12 + 8ull;
     t0 = I64_LOAD(m, t0);
     l4 = t0;
@@ -6950,10 +7172,10 @@ static void f33(Machine *m, u64 l0, u64 l1, u32 l2, u64 l3, u64 l4, u64 l5, u64 
     l3 = t1;
     t0 = t0 + l3;
     w0 = l10 != t0;
-    if (w0) goto L82;
+    if (w0) goto L88;
     t0 = l3 + l11;
     I64_STORE(m, l4, t0);
-    L82:;
+    L88:;
     t0 = l12 + 24ull;
     l4 = t0;
     t0 = I64_LOAD(m, l4);
@@ -6961,10 +7183,10 @@ static void f33(Machine *m, u64 l0, u64 l1, u32 l2, u64 l3, u64 l4, u64 l5, u64 
     I64_STORE(m, l4, t0);
     L18:;
     l8 = 0u;
-    I32_STORE(m, l7 + 871u, 0u);
+    I32_STORE(m, l7 + 863u, 0u);
     l17 = 0ull;
-    I64_STORE(m, l7 + 864u, 0ull);
     I64_STORE(m, l7 + 856u, 0ull);
+    I64_STORE(m, l7 + 848u, 0ull);
     l3 = 6ull;
     l2 = 1u;
     l18 = 0ull;
@@ -6973,11 +7195,11 @@ static void f33(Machine *m, u64 l0, u64 l1, u32 l2, u64 l3, u64 l4, u64 l5, u64 
     goto L16;
     L17:;
     w0 = l16 == 0;
-    if (w0) goto L83;
+    if (w0) goto L89;
     t0 = l15 + 16ull;
     t0 = I64_LOAD(m, t0);
     w0 = t0 != 1ull;
-    if (w0) goto L84;
+    if (w0) goto L90;
     t0 = l15 + 8ull;
     t0 = I64_LOAD(m, t0);
     l13 = t0;
@@ -6988,23 +7210,23 @@ static void f33(Machine *m, u64 l0, u64 l1, u32 l2, u64 l3, u64 l4, u64 l5, u64 
     l22 = t1;
     t0 = t0 + l22;
     w0 = l19 != t0;
-    if (w0) goto L84;
+    if (w0) goto L90;
     t0 = l16 << 3;
     t0 = l22 + t0;
     I64_STORE(m, l13, t0);
-    L84:;
+    L90:;
     t0 = l15 + 24ull;
     l13 = t0;
     t0 = I64_LOAD(m, l13);
     t0 = t0 + 18446744073709551615ull;
     I64_STORE(m, l13, t0);
-    L83:;
+    L89:;
     w0 = l11 == 0;
-    if (w0) goto L85;
+    if (w0) goto L91;
     t0 = l12 + 16ull;
     t0 = I64_LOAD(m, t0);
     w0 = t0 != 1ull;
-    if (w0) goto L86;
+    if (w0) goto L92;
     t0 = l12 + 8ull;
     t0 = I64_LOAD(m, t0);
     l13 = t0;
@@ -7015,99 +7237,99 @@ static void f33(Machine *m, u64 l0, u64 l1, u32 l2, u64 l3, u64 l4, u64 l5, u64 
     l15 = t1;
     t0 = t0 + l15;
     w0 = l10 != t0;
-    if (w0) goto L86;
+    if (w0) goto L92;
     t0 = l15 + l11;
     I64_STORE(m, l13, t0);
-    L86:;
+    L92:;
     t0 = l12 + 24ull;
     l12 = t0;
     t0 = I64_LOAD(m, l12);
     t0 = t0 + 18446744073709551615ull;
     I64_STORE(m, l12, t0);
-    L85:;
-    w0 = I32_LOAD(m, l7 + 1047u);
-    I32_STORE(m, l7 + 871u, w0);
-    t0 = I64_LOAD(m, l7 + 1040u);
-    I64_STORE(m, l7 + 864u, t0);
+    L91:;
+    w0 = I32_LOAD(m, l7 + 1039u);
+    I32_STORE(m, l7 + 863u, w0);
     t0 = I64_LOAD(m, l7 + 1032u);
     I64_STORE(m, l7 + 856u, t0);
+    t0 = I64_LOAD(m, l7 + 1024u);
+    I64_STORE(m, l7 + 848u, t0);
     l2 = 0u;
     L16:;
+    t0 = I64_LOAD(m, l7 + 848u);
+    I64_STORE(m, l7 + 816u, t0);
     t0 = I64_LOAD(m, l7 + 856u);
     I64_STORE(m, l7 + 824u, t0);
-    t0 = I64_LOAD(m, l7 + 864u);
-    I64_STORE(m, l7 + 832u, t0);
-    w0 = I32_LOAD(m, l7 + 871u);
-    I32_STORE(m, l7 + 839u, w0);
+    w0 = I32_LOAD(m, l7 + 863u);
+    I32_STORE(m, l7 + 831u, w0);
     L15:;
-    w0 = I32_LOAD(m, l7 + 839u);
-    I32_STORE(m, l7 + 815u, w0);
-    t0 = I64_LOAD(m, l7 + 832u);
-    I64_STORE(m, l7 + 808u, t0);
+    w0 = I32_LOAD(m, l7 + 831u);
+    I32_STORE(m, l7 + 807u, w0);
     t0 = I64_LOAD(m, l7 + 824u);
     I64_STORE(m, l7 + 800u, t0);
-    if (l2) goto L88;
+    t0 = I64_LOAD(m, l7 + 816u);
+    I64_STORE(m, l7 + 792u, t0);
+    if (l2) goto L94;
     t0 = l3 & 255ull;
     w0 = t0 == 1ull;
     l2 = w0;
     w0 = l2 == 0;
-    if (w0) goto L90;
+    if (w0) goto L96;
     t0 = l17 << 8;
     t1 = (u64)l8;
     t1 = t1 & 255ull;
     t0 = t0 | t1;
     l19 = t0;
-    t0 = l7 + 1688ull;
+    t0 = l7 + 1400ull;
     MEMORY_FILL(m, t0, 0u, 128ull);
     w0 = l18 == 0;
-    if (w0) goto L91;
-    t0 = l7 + 1688ull;
+    if (w0) goto L97;
+    t0 = l7 + 1400ull;
     MEMORY_COPY(m, t0, l19, l18);
-    L91:;
-    I64_STORE(m, l7 + 1816u, l18);
-    t0 = I64_LOAD(m, l7 + 1736u);
+    L97:;
+    I64_STORE(m, l7 + 1528u, l18);
+    t0 = I64_LOAD(m, l7 + 1448u);
+    I64_STORE(m, l7 + 680u, t0);
+    t0 = I64_LOAD(m, l7 + 1456u);
     I64_STORE(m, l7 + 688u, t0);
-    t0 = I64_LOAD(m, l7 + 1744u);
-    I64_STORE(m, l7 + 696u, t0);
-    w0 = I32_LOAD(m, l7 + 1751u);
-    I32_STORE(m, l7 + 703u, w0);
-    t0 = l7 + 1711ull;
+    w0 = I32_LOAD(m, l7 + 1463u);
+    I32_STORE(m, l7 + 695u, w0);
+    t0 = l7 + 1423ull;
     t0 = I64_LOAD8_U(m, t0);
     l3 = t0;
-    t0 = l7 + 1709ull;
+    t0 = l7 + 1421ull;
     t0 = I64_LOAD16_U(m, t0);
     l12 = t0;
-    w0 = I32_LOAD8_U(m, l7 + 1688u);
+    w0 = I32_LOAD8_U(m, l7 + 1400u);
     l14 = w0;
-    w0 = I32_LOAD8_U(m, l7 + 1689u);
+    w0 = I32_LOAD8_U(m, l7 + 1401u);
     l20 = w0;
-    t0 = I64_LOAD(m, l7 + 1696u);
+    t0 = I64_LOAD(m, l7 + 1408u);
     l16 = t0;
-    w0 = I32_LOAD8_U(m, l7 + 1704u);
+    w0 = I32_LOAD8_U(m, l7 + 1416u);
     l8 = w0;
-    t0 = I64_LOAD(m, l7 + 1712u);
+    t0 = I64_LOAD(m, l7 + 1424u);
     l18 = t0;
-    t0 = I64_LOAD(m, l7 + 1720u);
+    t0 = I64_LOAD(m, l7 + 1432u);
     l22 = t0;
-    t0 = I64_LOAD(m, l7 + 1728u);
+    t0 = I64_LOAD(m, l7 + 1440u);
     l15 = t0;
-    t0 = I64_LOAD32_U(m, l7 + 1690u);
+    t0 = I64_LOAD32_U(m, l7 + 1402u);
     l11 = t0;
-    t0 = I64_LOAD16_U(m, l7 + 1694u);
+    t0 = I64_LOAD16_U(m, l7 + 1406u);
     l10 = t0;
-    t0 = I64_LOAD32_U(m, l7 + 1705u);
+    t0 = I64_LOAD32_U(m, l7 + 1417u);
     l13 = t0;
-    t0 = l7 + 619ull;
-    t1 = l7 + 1755ull;
+    t0 = l7 + 611ull;
+    t1 = l7 + 1467ull;
     MEMORY_COPY(m, t0, t1, 69ull);
+    t0 = I64_LOAD(m, l7 + 680u);
+    I64_STORE(m, l7 + 768u, t0);
     t0 = I64_LOAD(m, l7 + 688u);
     I64_STORE(m, l7 + 776u, t0);
-    t0 = I64_LOAD(m, l7 + 696u);
-    I64_STORE(m, l7 + 784u, t0);
-    w0 = I32_LOAD(m, l7 + 703u);
-    I32_STORE(m, l7 + 791u, w0);
-    t0 = l7 + 707ull;
-    t1 = l7 + 619ull;
+    w0 = I32_LOAD(m, l7 + 695u);
+    I32_STORE(m, l7 + 783u, w0);
+    t0 = l7 + 699ull;
+    t1 = l7 + 611ull;
     MEMORY_COPY(m, t0, t1, 69ull);
     t0 = l3 << 48;
     t1 = l12 << 32;
@@ -7118,11 +7340,11 @@ static void f33(Machine *m, u64 l0, u64 l1, u32 l2, u64 l3, u64 l4, u64 l5, u64 
     t0 = l11 | t0;
     l3 = t0;
     w0 = l4 == 0;
-    if (w0) goto L89;
+    if (w0) goto L95;
     t0 = l9 + 16ull;
     t0 = I64_LOAD(m, t0);
     w0 = t0 != 1ull;
-    if (w0) goto L92;
+    if (w0) goto L98;
     t0 = l9 + 8ull;
     t0 = I64_LOAD(m, t0);
     l12 = t0;
@@ -7133,23 +7355,23 @@ static void f33(Machine *m, u64 l0, u64 l1, u32 l2, u64 l3, u64 l4, u64 l5, u64 
     l11 = t1;
     t0 = t0 + l11;
     w0 = t0 != l19;
-    if (w0) goto L92;
+    if (w0) goto L98;
     t0 = l11 + l4;
     I64_STORE(m, l12, t0);
-    L92:;
+    L98:;
     t0 = l9 + 24ull;
     l4 = t0;
     t0 = I64_LOAD(m, l4);
     t0 = t0 + 18446744073709551615ull;
     I64_STORE(m, l4, t0);
-    goto L89;
-    L90:;
-    w0 = I32_LOAD(m, l7 + 615u);
-    I32_STORE(m, l7 + 791u, w0);
-    t0 = I64_LOAD(m, l7 + 608u);
-    I64_STORE(m, l7 + 784u, t0);
+    goto L95;
+    L96:;
+    w0 = I32_LOAD(m, l7 + 607u);
+    I32_STORE(m, l7 + 783u, w0);
     t0 = I64_LOAD(m, l7 + 600u);
     I64_STORE(m, l7 + 776u, t0);
+    t0 = I64_LOAD(m, l7 + 592u);
+    I64_STORE(m, l7 + 768u, t0);
     l8 = 0u;
     l14 = 10u;
     l17 = 0ull;
@@ -7159,15 +7381,15 @@ static void f33(Machine *m, u64 l0, u64 l1, u32 l2, u64 l3, u64 l4, u64 l5, u64 
     l3 = 0ull;
     l20 = 0u;
     l16 = 0ull;
-    L89:;
-    w0 = I32_LOAD(m, l7 + 791u);
-    I32_STORE(m, l7 + 559u, w0);
-    t0 = I64_LOAD(m, l7 + 784u);
-    I64_STORE(m, l7 + 552u, t0);
+    L95:;
+    w0 = I32_LOAD(m, l7 + 783u);
+    I32_STORE(m, l7 + 551u, w0);
     t0 = I64_LOAD(m, l7 + 776u);
     I64_STORE(m, l7 + 544u, t0);
-    t0 = l7 + 475ull;
-    t1 = l7 + 707ull;
+    t0 = I64_LOAD(m, l7 + 768u);
+    I64_STORE(m, l7 + 536u, t0);
+    t0 = l7 + 467ull;
+    t1 = l7 + 699ull;
     MEMORY_COPY(m, t0, t1, 69ull);
     t0 = (u64)l20;
     t0 = t0 & 255ull;
@@ -7178,44 +7400,44 @@ static void f33(Machine *m, u64 l0, u64 l1, u32 l2, u64 l3, u64 l4, u64 l5, u64 
     t1 = t1 & 255ull;
     t0 = t0 | t1;
     l19 = t0;
-    goto L87;
-    L88:;
-    w0 = I32_LOAD(m, l7 + 815u);
-    I32_STORE(m, l7 + 559u, w0);
-    t0 = I64_LOAD(m, l7 + 808u);
-    I64_STORE(m, l7 + 552u, t0);
+    goto L93;
+    L94:;
+    w0 = I32_LOAD(m, l7 + 807u);
+    I32_STORE(m, l7 + 551u, w0);
     t0 = I64_LOAD(m, l7 + 800u);
     I64_STORE(m, l7 + 544u, t0);
+    t0 = I64_LOAD(m, l7 + 792u);
+    I64_STORE(m, l7 + 536u, t0);
     l2 = 0u;
-    t0 = l7 + 475ull;
+    t0 = l7 + 467ull;
     MEMORY_FILL(m, t0, 0u, 69ull);
     t0 = l3 & 255ull;
     l16 = t0;
     l19 = 4ull;
     l22 = l4;
     l15 = l9;
-    L87:;
-    t0 = I64_LOAD(m, l7 + 448u);
-    w0 = t0 != 0ull;
-    if (w0) goto L93;
+    L93:;
     t0 = I64_LOAD(m, l7 + 440u);
+    w0 = t0 != 0ull;
+    if (w0) goto L99;
+    t0 = I64_LOAD(m, l7 + 432u);
     l12 = t0;
     w0 = l12 == 0;
-    if (w0) goto L93;
+    if (w0) goto L99;
     t0 = l12 + 18446744073709551615ull;
     l13 = t0;
-    t0 = I64_LOAD(m, l7 + 424u);
+    t0 = I64_LOAD(m, l7 + 416u);
     l4 = t0;
     t0 = l4 + 24ull;
     t0 = I64_LOAD(m, t0);
     l9 = t0;
-    t0 = I64_LOAD(m, l7 + 432u);
+    t0 = I64_LOAD(m, l7 + 424u);
     l3 = t0;
     t0 = l12 & 3ull;
     l11 = t0;
     w0 = l11 == 0;
-    if (w0) goto L94;
-    L95:;
+    if (w0) goto L100;
+    L101:;
     l10 = l3;
     t0 = l10 + 24ull;
     t0 = I64_LOAD(m, t0);
@@ -7232,11 +7454,11 @@ static void f33(Machine *m, u64 l0, u64 l1, u32 l2, u64 l3, u64 l4, u64 l5, u64 
     t0 = l11 + 18446744073709551615ull;
     l11 = t0;
     w0 = l11 != 0ull;
-    if (w0) goto L95;
-    L94:;
+    if (w0) goto L101;
+    L100:;
     w0 = l13 < 3ull;
-    if (w0) goto L93;
-    L96:;
+    if (w0) goto L99;
+    L102:;
     t0 = l3 + 24ull;
     t0 = I64_LOAD(m, t0);
     l13 = t0;
@@ -7276,67 +7498,65 @@ static void f33(Machine *m, u64 l0, u64 l1, u32 l2, u64 l3, u64 l4, u64 l5, u64 
     t0 = l12 + 18446744073709551612ull;
     l12 = t0;
     w0 = l12 != 0ull;
-    if (w0) goto L96;
-    L93:;
-    w0 = I32_LOAD8_U(m, l7 + 568u);
+    if (w0) goto L102;
+    L99:;
+    w0 = I32_LOAD8_U(m, l7 + 560u);
     w0 = w0 == 1u;
-    if (w0) goto L97;
-    w0 = I32_LOAD(m, l7 + 415u);
-    I32_STORE(m, l7 + 95u, w0);
-    t0 = I64_LOAD(m, l7 + 408u);
-    I64_STORE(m, l7 + 88u, t0);
+    if (w0) goto L103;
+    w0 = I32_LOAD(m, l7 + 407u);
+    I32_STORE(m, l7 + 87u, w0);
     t0 = I64_LOAD(m, l7 + 400u);
     I64_STORE(m, l7 + 80u, t0);
+    t0 = I64_LOAD(m, l7 + 392u);
+    I64_STORE(m, l7 + 72u, t0);
     l16 = 6ull;
     l8 = 0u;
     l15 = 0ull;
     goto L9;
-    L97:;
-    t0 = l7 + 576ull;
+    L103:;
+    t0 = l7 + 568ull;
     l4 = t0;
     t0 = I64_LOAD(m, l4 + 8u);
     I64_STORE(m, l1 + 8u, t0);
     t0 = I64_LOAD(m, l4);
     I64_STORE(m, l1, t0);
+    t0 = I64_LOAD(m, l7 + 536u);
+    I64_STORE(m, l7 + 72u, t0);
     t0 = I64_LOAD(m, l7 + 544u);
     I64_STORE(m, l7 + 80u, t0);
-    t0 = I64_LOAD(m, l7 + 552u);
-    I64_STORE(m, l7 + 88u, t0);
-    w0 = I32_LOAD(m, l7 + 559u);
-    I32_STORE(m, l7 + 95u, w0);
-    t0 = l7 + 11ull;
-    t1 = l7 + 475ull;
+    w0 = I32_LOAD(m, l7 + 551u);
+    I32_STORE(m, l7 + 87u, w0);
+    t0 = l7 + 3ull;
+    t1 = l7 + 467ull;
     MEMORY_COPY(m, t0, t1, 69ull);
     w0 = l2 == 0;
     if (w0) goto L8;
-    I64_STORE32(m, l7 + 241u, l17);
-    t0 = l7 + 247ull;
+    I64_STORE32(m, l7 + 233u, l17);
+    t0 = l7 + 239ull;
     t1 = l17 >> 48;
     I64_STORE8(m, t0, t1);
-    t0 = l7 + 245ull;
+    t0 = l7 + 237ull;
     t1 = l17 >> 32;
     I64_STORE16(m, t0, t1);
-    I64_STORE(m, l7 + 264u, l15);
-    I64_STORE(m, l7 + 256u, l22);
-    I64_STORE(m, l7 + 248u, l18);
-    I32_STORE8(m, l7 + 240u, l8);
-    I64_STORE(m, l7 + 232u, l16);
-    I64_STORE(m, l7 + 224u, l19);
+    I64_STORE(m, l7 + 256u, l15);
+    I64_STORE(m, l7 + 248u, l22);
+    I64_STORE(m, l7 + 240u, l18);
+    I32_STORE8(m, l7 + 232u, l8);
+    I64_STORE(m, l7 + 224u, l16);
+    I64_STORE(m, l7 + 216u, l19);
+    t0 = I64_LOAD(m, l7 + 72u);
+    I64_STORE(m, l7 + 264u, t0);
     t0 = I64_LOAD(m, l7 + 80u);
     I64_STORE(m, l7 + 272u, t0);
-    t0 = I64_LOAD(m, l7 + 88u);
-    I64_STORE(m, l7 + 280u, t0);
-    w0 = I32_LOAD(m, l7 + 95u);
-    I32_STORE(m, l7 + 287u, w0);
-    w0 = I32_LOAD(m, l7 + 11u);
-    I32_STORE(m, l7 + 291u, w0);
-    w0 = I32_LOAD8_U(m, l7 + 15u);
-    I32_STORE8(m, l7 + 295u, w0);
-    t0 = I64_LOAD(m, l7 + 72u);
-    l4 = t0;
-    I64_STORE(m, l7 + 352u, l4);
+    w0 = I32_LOAD(m, l7 + 87u);
+    I32_STORE(m, l7 + 279u, w0);
+    w0 = I32_LOAD(m, l7 + 3u);
+    I32_STORE(m, l7 + 283u, w0);
+    w0 = I32_LOAD8_U(m, l7 + 7u);
+    I32_STORE8(m, l7 + 287u, w0);
     t0 = I64_LOAD(m, l7 + 64u);
-    I64_STORE(m, l7 + 344u, t0);
+    l4 = t0;
+    I64_STORE(m, l7 + 344u, l4);
     t0 = I64_LOAD(m, l7 + 56u);
     I64_STORE(m, l7 + 336u, t0);
     t0 = I64_LOAD(m, l7 + 48u);
@@ -7349,25 +7569,27 @@ static void f33(Machine *m, u64 l0, u64 l1, u32 l2, u64 l3, u64 l4, u64 l5, u64 
     I64_STORE(m, l7 + 304u, t0);
     t0 = I64_LOAD(m, l7 + 16u);
     I64_STORE(m, l7 + 296u, t0);
+    t0 = I64_LOAD(m, l7 + 8u);
+    I64_STORE(m, l7 + 288u, t0);
     w0 = l6 >= l4;
-    if (w0) goto L99;
-    I32_STORE(m, l7 + 391u, 0u);
-    I64_STORE(m, l7 + 384u, 0ull);
+    if (w0) goto L105;
+    I32_STORE(m, l7 + 383u, 0u);
     I64_STORE(m, l7 + 376u, 0ull);
+    I64_STORE(m, l7 + 368u, 0ull);
     l4 = 11ull;
     l3 = 1ull;
-    goto L98;
-    L99:;
+    goto L104;
+    L105:;
     w0 = l4 == 0;
-    if (w0) goto L100;
-    t0 = l7 + 224ull;
+    if (w0) goto L106;
+    t0 = l7 + 216ull;
     MEMORY_COPY(m, l5, t0, l4);
-    L100:;
-    I32_STORE(m, l7 + 391u, 0u);
+    L106:;
+    I32_STORE(m, l7 + 383u, 0u);
     l3 = 0ull;
-    I64_STORE(m, l7 + 384u, 0ull);
     I64_STORE(m, l7 + 376u, 0ull);
-    L98:;
+    I64_STORE(m, l7 + 368u, 0ull);
+    L104:;
     I64_STORE(m, l0, l3);
     t0 = l0 + 16ull;
     I64_STORE(m, t0, 0ull);
@@ -7382,13 +7604,13 @@ static void f33(Machine *m, u64 l0, u64 l1, u32 l2, u64 l3, u64 l4, u64 l5, u64 
     t0 = l0 + 48ull;
     I64_STORE(m, t0, 0ull);
     t0 = l0 + 56ull;
-    t1 = I64_LOAD(m, l7 + 376u);
+    t1 = I64_LOAD(m, l7 + 368u);
     I64_STORE(m, t0, t1);
     t0 = l0 + 64ull;
-    t1 = I64_LOAD(m, l7 + 384u);
+    t1 = I64_LOAD(m, l7 + 376u);
     I64_STORE(m, t0, t1);
     t0 = l0 + 71ull;
-    w0 = I32_LOAD(m, l7 + 391u);
+    w0 = I32_LOAD(m, l7 + 383u);
     I32_STORE(m, t0, w0);
     goto L0;
     L9:;
@@ -7420,21 +7642,21 @@ static void f33(Machine *m, u64 l0, u64 l1, u32 l2, u64 l3, u64 l4, u64 l5, u64 
     t1 = l19 & 65535ull;
     I64_STORE(m, t0, t1);
     t0 = l0 + 56ull;
-    t1 = I64_LOAD(m, l7 + 80u);
+    t1 = I64_LOAD(m, l7 + 72u);
     I64_STORE(m, t0, t1);
     t0 = l0 + 64ull;
-    t1 = I64_LOAD(m, l7 + 88u);
+    t1 = I64_LOAD(m, l7 + 80u);
     I64_STORE(m, t0, t1);
     t0 = l0 + 71ull;
-    w0 = I32_LOAD(m, l7 + 95u);
+    w0 = I32_LOAD(m, l7 + 87u);
     I32_STORE(m, t0, w0);
-    I32_STORE8(m, l7 + 216u, l8);
+    I32_STORE8(m, l7 + 208u, l8);
     t0 = l0 + 24ull;
     t1 = (u64)l8;
     I64_STORE8(m, t0, t1);
-    I64_STORE(m, l7 + 208u, l4);
+    I64_STORE(m, l7 + 200u, l4);
     L0:;
-    t0 = l7 + 2048ull;
+    t0 = l7 + 2320ull;
     m->stack_pointer = t0;
 }
 
@@ -7468,7 +7690,7 @@ static void f34(Machine *m, u64 l0, u32 l1, u64 l2, u64 l3) {
     t0 = l6 + l3;
     l7 = t0;
     w0 = I32_LOAD8_U(m, l7);
-    w0 = f48(m, w0);
+    w0 = f46(m, w0);
     w0 = w0 == 0;
     if (w0) goto L7;
     t0 = l3 - l4;
@@ -7553,7 +7775,7 @@ static void f34(Machine *m, u64 l0, u32 l1, u64 l2, u64 l3) {
     w0 = w0 | w1;
     l13 = w0;
     L11:;
-    w0 = f49(m, l13);
+    w0 = f47(m, l13);
     if (w0) goto L10;
     l4 = 0ull;
     l7 = 8589934592ull;
@@ -7664,7 +7886,7 @@ static void f34(Machine *m, u64 l0, u32 l1, u64 l2, u64 l3) {
     goto L0;
     L6:;
     t0 = l5 + 32ull;
-    f50(m, t0, l1, l2, l3);
+    f48(m, t0, l1, l2, l3);
     I64_STORE(m, l0, 1ull);
     t0 = l0 + 32ull;
     t1 = I64_LOAD(m, l5 + 56u);
@@ -7804,7 +8026,7 @@ static void f35(Machine *m, u64 l0, u64 l1, u64 l2, u64 l3) {
     w0 = l3 == 0;
     if (w0) goto L3;
     t0 = l4 + 72ull;
-    w0 = f52(m, t0, l3);
+    w0 = f50(m, t0, l3);
     if (w0) goto L4;
     t0 = I64_LOAD(m, l4 + 88u);
     l2 = t0;
@@ -7867,13 +8089,13 @@ static void f35(Machine *m, u64 l0, u64 l1, u64 l2, u64 l3) {
     L8:;
     w0 = I32_LOAD8_U(m, l2);
     l8 = w0;
-    w0 = f51(m, l8);
+    w0 = f49(m, l8);
     l9 = w0;
     t0 = I64_LOAD(m, l4 + 56u);
     w0 = t0 != l1;
     if (w0) goto L9;
     t0 = l4 + 40ull;
-    w0 = f53(m, t0);
+    w0 = f51(m, t0);
     w0 = w0 == 0;
     if (w0) goto L7;
     t0 = I64_LOAD(m, l4 + 48u);
@@ -7997,7 +8219,7 @@ static void f36(Machine *m, u64 l0, u64 l1, u64 l2, u64 l3) {
     l5 = t0;
     L3:;
     w0 = I32_LOAD8_U(m, l2);
-    w0 = f51(m, w0);
+    w0 = f49(m, w0);
     w0 = w0 == 0;
     if (w0) goto L4;
     t0 = I64_LOAD(m, l4 + 24u);
@@ -8006,7 +8228,7 @@ static void f36(Machine *m, u64 l0, u64 l1, u64 l2, u64 l3) {
     w0 = t0 != l1;
     if (w0) goto L6;
     t0 = l4 + 8ull;
-    w0 = f55(m, t0);
+    w0 = f53(m, t0);
     w0 = w0 == 0;
     if (w0) goto L5;
     t0 = I64_LOAD(m, l4 + 8u);
@@ -8279,17 +8501,19 @@ static void f37(Machine *m, u64 l0, u64 l1) {
 
 /* bech32_correction::erasures::distinct_below::<#d5da2a0e529987d8> */
 static void f38(Machine *m, u64 l0, u64 l1, u64 l2, u64 l3, u64 l4) {
-    u32 l9 = 0, l13 = 0, w0, w1, w2, w3;
-    u64 l5 = 0, l6 = 0, l7 = 0, l8 = 0, l10 = 0, l11 = 0, l12 = 0, l14 = 0, l15 = 0, t0, t1, t2;
+    u32 l10 = 0, l14 = 0, w0, w1, w2, w3;
+    u64 l5 = 0, l6 = 0, l7 = 0, l8 = 0, l9 = 0, l11 = 0, l12 = 0, l13 = 0, l15 = 0, t0, t1, t2;
     FRAME(m, 144u);
     t0 = m->stack_pointer;
     t0 = t0 - 144ull;
     l5 = t0;
     m->stack_pointer = l5;
     l6 = l5;
+    l5 = l2;
+    l7 = l3;
     w0 = l3 == 0;
     w0 = w0 == 0;
-    if (w0) goto L4;
+    if (w0) goto L2;
     I32_STORE8(m, l0, 0u);
     t0 = l0 + 8ull;
     I64_STORE(m, t0, 1ull);
@@ -8298,172 +8522,140 @@ static void f38(Machine *m, u64 l0, u64 l1, u64 l2, u64 l3, u64 l4) {
     t0 = l0 + 88ull;
     I64_STORE(m, t0, l1);
     goto L0;
-    L4:;
-    t0 = I64_LOAD(m, l2);
-    w0 = l4 > t0;
-    if (w0) goto L2;
-    goto L1;
-    TRAP(m);
-    return;
     L2:;
-    w0 = l3 == 1ull;
-    if (w0) goto L5;
-    t0 = l2 + 8ull;
-    t0 = I64_LOAD(m, t0);
-    w0 = l4 <= t0;
-    if (w0) goto L1;
-    w0 = l3 == 2ull;
-    if (w0) goto L5;
-    t0 = l2 + 16ull;
-    t0 = I64_LOAD(m, t0);
-    w0 = l4 <= t0;
-    if (w0) goto L1;
-    w0 = l3 == 3ull;
-    if (w0) goto L5;
-    t0 = l2 + 24ull;
-    t0 = I64_LOAD(m, t0);
-    w0 = l4 <= t0;
-    if (w0) goto L1;
-    w0 = l3 == 4ull;
-    if (w0) goto L5;
-    t0 = l2 + 32ull;
-    t0 = I64_LOAD(m, t0);
-    w0 = l4 <= t0;
-    if (w0) goto L1;
-    w0 = l3 == 5ull;
-    if (w0) goto L5;
-    t0 = l2 + 40ull;
-    t0 = I64_LOAD(m, t0);
-    w0 = l4 <= t0;
-    if (w0) goto L1;
-    w0 = l3 == 6ull;
-    if (w0) goto L5;
-    t0 = l2 + 48ull;
-    t0 = I64_LOAD(m, t0);
-    w0 = l4 <= t0;
-    if (w0) goto L1;
-    w0 = l3 == 7ull;
-    if (w0) goto L5;
-    t0 = l2 + 56ull;
-    t0 = I64_LOAD(m, t0);
-    w0 = l4 <= t0;
-    if (w0) goto L1;
     L5:;
+    t0 = I64_LOAD(m, l5);
+    w0 = l4 <= t0;
+    if (w0) goto L4;
+    t0 = l5 + 8ull;
+    l5 = t0;
+    t0 = l7 + 18446744073709551615ull;
+    l7 = t0;
+    w0 = l7 == 0;
+    if (w0) goto L3;
+    goto L5;
+    L4:;
+    I32_STORE8(m, l0, 0u);
+    t0 = l0 + 8ull;
+    MEMORY_FILL(m, t0, 0u, 88ull);
+    goto L0;
+    L3:;
     t0 = l6 + 64ull;
     MEMORY_FILL(m, t0, 0u, 72ull);
     I64_STORE(m, l6 + 136u, l1);
-    t0 = l6 + 72ull;
-    l7 = t0;
-    l8 = 0ull;
+    t0 = l6 + 64ull;
+    t0 = t0 + 8ull;
+    l8 = t0;
+    l9 = 0ull;
     L7:;
-    t0 = l8 << 3;
+    t0 = l9 << 3;
     t0 = l2 + t0;
     t0 = I64_LOAD(m, t0);
-    l4 = t0;
+    l7 = t0;
     t0 = l6 + 80ull;
     t1 = l6 + 128ull;
     w0 = I32_LOAD8_U(m, l6 + 64u);
-    l9 = w0;
-    t0 = l9 ? t0 : t1;
+    l10 = w0;
+    t0 = l10 ? t0 : t1;
     t0 = I64_LOAD(m, t0);
-    l10 = t0;
-    w0 = l10 == 0;
+    l11 = t0;
+    w0 = l11 == 0;
     if (w0) goto L11;
     t0 = I64_LOAD(m, l6 + 72u);
-    l11 = t0;
-    t0 = l9 ? l11 : l7;
     l12 = t0;
-    t0 = l10 & 3ull;
-    l1 = t0;
-    l13 = 0u;
-    l14 = l10;
-    w0 = l10 < 4ull;
+    t0 = l10 ? l12 : l8;
+    l13 = t0;
+    t0 = l11 & 3ull;
+    l4 = t0;
+    l14 = 0u;
+    l1 = l11;
+    w0 = l11 < 4ull;
     if (w0) goto L13;
-    t0 = l10 & 18446744073709551612ull;
+    t0 = l11 & 18446744073709551612ull;
     l15 = t0;
-    t0 = l10 << 3;
-    t0 = l12 + t0;
+    t0 = l11 << 3;
+    t0 = l13 + t0;
     t0 = t0 + 18446744073709551584ull;
     l5 = t0;
-    l13 = 0u;
-    l14 = l10;
+    l14 = 0u;
+    l1 = l11;
     L14:;
     t0 = I64_LOAD(m, l5);
-    w0 = l4 == t0;
+    w0 = l7 == t0;
     t0 = l5 + 8ull;
     t0 = I64_LOAD(m, t0);
-    w1 = l4 == t0;
+    w1 = l7 == t0;
     t0 = l5 + 16ull;
     t0 = I64_LOAD(m, t0);
-    w2 = l4 == t0;
+    w2 = l7 == t0;
     t0 = l5 + 24ull;
     t0 = I64_LOAD(m, t0);
-    w3 = l4 == t0;
+    w3 = l7 == t0;
     w2 = w2 | w3;
     w1 = w1 | w2;
     w0 = w0 | w1;
-    w0 = w0 | l13;
-    l13 = w0;
+    w0 = w0 | l14;
+    l14 = w0;
     t0 = l5 + 18446744073709551584ull;
     l5 = t0;
-    t0 = l14 + 18446744073709551612ull;
-    l14 = t0;
+    t0 = l1 + 18446744073709551612ull;
+    l1 = t0;
     t0 = l15 + 18446744073709551612ull;
     l15 = t0;
     w0 = l15 != 0ull;
     if (w0) goto L14;
-    w0 = l1 == 0;
+    w0 = l4 == 0;
     if (w0) goto L12;
     L13:;
-    t0 = l14 << 3;
-    t0 = l12 + t0;
+    t0 = l1 << 3;
+    t0 = l13 + t0;
     t0 = t0 + 18446744073709551608ull;
     l5 = t0;
     L15:;
     t0 = I64_LOAD(m, l5);
-    w0 = l4 == t0;
-    w0 = w0 | l13;
-    l13 = w0;
+    w0 = l7 == t0;
+    w0 = w0 | l14;
+    l14 = w0;
     t0 = l5 + 18446744073709551608ull;
     l5 = t0;
-    t0 = l1 + 18446744073709551615ull;
-    l1 = t0;
-    w0 = l1 != 0ull;
+    t0 = l4 + 18446744073709551615ull;
+    l4 = t0;
+    w0 = l4 != 0ull;
     if (w0) goto L15;
     L12:;
-    w0 = l13 & 1u;
+    w0 = l14 & 1u;
     if (w0) goto L8;
     t0 = I64_LOAD(m, l6 + 88u);
     l5 = t0;
-    w0 = l10 != 8ull;
+    w0 = l11 != 8ull;
     if (w0) goto L10;
-    w0 = l9 != 1u;
+    w0 = l10 != 1u;
     if (w0) goto L16;
     w0 = l5 == 0;
     if (w0) goto L16;
     t0 = I64_LOAD(m, l6 + 96u);
     t0 = I64_LOAD(m, t0);
-    l4 = t0;
-    t0 = l4 + 16ull;
+    l7 = t0;
+    t0 = l7 + 16ull;
     t0 = I64_LOAD(m, t0);
     w0 = t0 != 1ull;
     if (w0) goto L17;
-    t0 = l4 + 8ull;
+    t0 = l7 + 8ull;
     t0 = I64_LOAD(m, t0);
-    l1 = t0;
-    t0 = I64_LOAD(m, l1);
-    t1 = l1 + 32ull;
+    l4 = t0;
+    t0 = I64_LOAD(m, l4);
+    t1 = l4 + 32ull;
+    l4 = t1;
+    t1 = I64_LOAD(m, l4);
     l1 = t1;
-    t1 = I64_LOAD(m, l1);
-    l14 = t1;
-    t0 = t0 + l14;
-    w0 = l11 != t0;
+    t0 = t0 + l1;
+    w0 = l12 != t0;
     if (w0) goto L17;
     t0 = l5 << 3;
-    t0 = l14 + t0;
-    I64_STORE(m, l1, t0);
+    t0 = l1 + t0;
+    I64_STORE(m, l4, t0);
     L17:;
-    t0 = l4 + 24ull;
+    t0 = l7 + 24ull;
     l5 = t0;
     t0 = I64_LOAD(m, l5);
     t0 = t0 + 18446744073709551615ull;
@@ -8478,30 +8670,30 @@ static void f38(Machine *m, u64 l0, u64 l1, u64 l2, u64 l3, u64 l4) {
     I64_STORE(m, l6 + 16u, 0ull);
     I64_STORE(m, l6 + 8u, 0ull);
     I64_STORE(m, l6, 0ull);
-    l13 = 0u;
+    l14 = 0u;
     goto L9;
     L11:;
     t0 = I64_LOAD(m, l6 + 88u);
     l5 = t0;
     L10:;
-    t0 = l9 ? l5 : 7ull;
-    w0 = l10 != t0;
+    t0 = l10 ? l5 : 7ull;
+    w0 = l11 != t0;
     if (w0) goto L19;
     t0 = l6 + 64ull;
-    w0 = f57(m, t0);
-    l13 = w0;
+    w0 = f55(m, t0);
+    l14 = w0;
     w0 = I32_LOAD8_U(m, l6 + 64u);
-    l9 = w0;
-    w0 = l13 & 255u;
+    l10 = w0;
+    w0 = l14 & 255u;
     if (w0) goto L18;
     L19:;
-    w0 = l9 & 255u;
+    w0 = l10 & 255u;
     if (w0) goto L20;
     t0 = I64_LOAD(m, l6 + 128u);
     l5 = t0;
     t0 = l5 << 3;
-    t0 = l7 + t0;
-    I64_STORE(m, t0, l4);
+    t0 = l8 + t0;
+    I64_STORE(m, t0, l7);
     t0 = l5 + 1ull;
     I64_STORE(m, l6 + 128u, t0);
     goto L8;
@@ -8511,18 +8703,18 @@ static void f38(Machine *m, u64 l0, u64 l1, u64 l2, u64 l3, u64 l4) {
     l5 = t1;
     t1 = l5 << 3;
     t0 = t0 + t1;
-    I64_STORE(m, t0, l4);
+    I64_STORE(m, t0, l7);
     t0 = l5 + 1ull;
     I64_STORE(m, l6 + 80u, t0);
     goto L8;
     L18:;
-    l13 = 1u;
-    w0 = l9 & 255u;
+    l14 = 1u;
+    w0 = l10 & 255u;
     w0 = w0 != 1u;
     if (w0) goto L21;
     t0 = I64_LOAD(m, l6 + 88u);
-    l4 = t0;
-    w0 = l4 == 0;
+    l7 = t0;
+    w0 = l7 == 0;
     if (w0) goto L21;
     t0 = I64_LOAD(m, l6 + 96u);
     t0 = I64_LOAD(m, t0);
@@ -8534,18 +8726,18 @@ static void f38(Machine *m, u64 l0, u64 l1, u64 l2, u64 l3, u64 l4) {
     t0 = I64_LOAD(m, l6 + 72u);
     t1 = l5 + 8ull;
     t1 = I64_LOAD(m, t1);
-    l1 = t1;
-    t1 = I64_LOAD(m, l1);
-    t2 = l1 + 32ull;
+    l4 = t1;
+    t1 = I64_LOAD(m, l4);
+    t2 = l4 + 32ull;
+    l4 = t2;
+    t2 = I64_LOAD(m, l4);
     l1 = t2;
-    t2 = I64_LOAD(m, l1);
-    l14 = t2;
-    t1 = t1 + l14;
+    t1 = t1 + l1;
     w0 = t0 != t1;
     if (w0) goto L22;
-    t0 = l4 << 3;
-    t0 = l14 + t0;
-    I64_STORE(m, l1, t0);
+    t0 = l7 << 3;
+    t0 = l1 + t0;
+    I64_STORE(m, l4, t0);
     L22:;
     t0 = l5 + 24ull;
     l5 = t0;
@@ -8563,40 +8755,40 @@ static void f38(Machine *m, u64 l0, u64 l1, u64 l2, u64 l3, u64 l4) {
     I64_STORE(m, l6 + 8u, 0ull);
     I64_STORE(m, l6, 0ull);
     L9:;
+    l7 = 0ull;
     l4 = 0ull;
-    l1 = 0ull;
     goto L6;
     L8:;
     l5 = 1ull;
-    t0 = l8 + 1ull;
-    l8 = t0;
-    w0 = l8 != l3;
+    t0 = l9 + 1ull;
+    l9 = t0;
+    w0 = l9 != l3;
     if (w0) goto L7;
-    t0 = I64_LOAD(m, l7);
+    t0 = I64_LOAD(m, l8);
     I64_STORE(m, l6, t0);
-    t0 = I64_LOAD(m, l7 + 8u);
+    t0 = I64_LOAD(m, l8 + 8u);
     I64_STORE(m, l6 + 8u, t0);
-    t0 = I64_LOAD(m, l7 + 16u);
+    t0 = I64_LOAD(m, l8 + 16u);
     I64_STORE(m, l6 + 16u, t0);
-    t0 = I64_LOAD(m, l7 + 24u);
+    t0 = I64_LOAD(m, l8 + 24u);
     I64_STORE(m, l6 + 24u, t0);
-    t0 = I64_LOAD(m, l7 + 32u);
+    t0 = I64_LOAD(m, l8 + 32u);
     I64_STORE(m, l6 + 32u, t0);
-    t0 = I64_LOAD(m, l7 + 40u);
+    t0 = I64_LOAD(m, l8 + 40u);
     I64_STORE(m, l6 + 40u, t0);
-    t0 = I64_LOAD(m, l7 + 48u);
+    t0 = I64_LOAD(m, l8 + 48u);
     I64_STORE(m, l6 + 48u, t0);
-    t0 = I64_LOAD(m, l7 + 56u);
+    t0 = I64_LOAD(m, l8 + 56u);
     I64_STORE(m, l6 + 56u, t0);
-    l13 = 0u;
+    l14 = 0u;
     t0 = I64_LOAD8_U(m, l6 + 64u);
-    l4 = t0;
+    l7 = t0;
     t0 = I64_LOAD(m, l6 + 136u);
-    l1 = t0;
+    l4 = t0;
     L6:;
-    I32_STORE8(m, l0, l13);
+    I32_STORE8(m, l0, l14);
     t0 = l0 + 16ull;
-    I64_STORE(m, t0, l4);
+    I64_STORE(m, t0, l7);
     t0 = l0 + 8ull;
     I64_STORE(m, t0, l5);
     t0 = l0 + 24ull;
@@ -8624,12 +8816,10 @@ static void f38(Machine *m, u64 l0, u64 l1, u64 l2, u64 l3, u64 l4) {
     t1 = I64_LOAD(m, l6 + 56u);
     I64_STORE(m, t0, t1);
     t0 = l0 + 88ull;
-    I64_STORE(m, t0, l1);
+    I64_STORE(m, t0, l4);
     goto L0;
-    L1:;
-    I32_STORE8(m, l0, 0u);
-    t0 = l0 + 8ull;
-    MEMORY_FILL(m, t0, 0u, 88ull);
+    TRAP(m);
+    return;
     L0:;
     t0 = l6 + 144ull;
     m->stack_pointer = t0;
@@ -8822,7 +9012,7 @@ static void f39(Machine *m, u64 l0, u64 l1, u32 l2, u64 l3, u64 l4) {
     w0 = t0 != t1;
     if (w0) goto L17;
     t0 = l6 + 8ull;
-    w0 = f59(m, t0);
+    w0 = f57(m, t0);
     l12 = w0;
     w0 = I32_LOAD8_U(m, l6 + 8u);
     l9 = w0;
@@ -8928,7 +9118,7 @@ static void f39(Machine *m, u64 l0, u64 l1, u32 l2, u64 l3, u64 l4) {
     return;
 }
 
-/* bech32_finders::erased::eliminated_values::<#771ad920835cb552> */
+/* bech32_lookup::erased::eliminated_values::<#771ad920835cb552> */
 static void f40(Machine *m, u64 l0, u64 l1, u64 l2, u64 l3) {
     u32 l13 = 0, l14 = 0, l15 = 0, l16 = 0, l17 = 0, l18 = 0, l19 = 0, l20 = 0, l21 = 0, l22 = 0, l23 = 0, l24 = 0, l25 = 0, w0, w1;
     u64 l4 = 0, l5 = 0, l6 = 0, l7 = 0, l8 = 0, l9 = 0, l10 = 0, l11 = 0, l12 = 0, t0, t1, t2, t3;
@@ -9986,7 +10176,7 @@ static void f40(Machine *m, u64 l0, u64 l1, u64 l2, u64 l3) {
     MEMORY_COPY(m, t0, t1, 650ull);
     t0 = l4 + 1816ull;
     t1 = l4 + 1166ull;
-    f65(m, t0, t1, l3, 13ull);
+    f63(m, t0, t1, l3, 13ull);
     w0 = I32_LOAD8_U(m, l4 + 1816u);
     I32_STORE8(m, l0, w0);
     t0 = l0 + 1ull;
@@ -10009,7 +10199,7 @@ static void f40(Machine *m, u64 l0, u64 l1, u64 l2, u64 l3) {
     m->stack_pointer = t0;
 }
 
-/* bech32_finders::erased::listing_of::<#d5da2a0e529987d8> */
+/* bech32_lookup::erased::listing_of::<#d5da2a0e529987d8> */
 static void f41(Machine *m, u64 l0, u64 l1, u64 l2, u64 l3, u64 l4) {
     u32 l7 = 0, l9 = 0, l10 = 0, w0;
     u64 l5 = 0, l6 = 0, l8 = 0, l11 = 0, t0, t1, t2;
@@ -10048,7 +10238,7 @@ static void f41(Machine *m, u64 l0, u64 l1, u64 l2, u64 l3, u64 l4) {
     w0 = t0 != t1;
     if (w0) goto L6;
     t0 = l5 + 8ull;
-    w0 = f63(m, t0);
+    w0 = f61(m, t0);
     l10 = w0;
     w0 = I32_LOAD8_U(m, l5 + 8u);
     l9 = w0;
@@ -10149,7 +10339,7 @@ static void f41(Machine *m, u64 l0, u64 l1, u64 l2, u64 l3, u64 l4) {
     return;
 }
 
-/* bech32_finders::correction::correct_by_roots::<#a4f5505ff1a120c3> */
+/* bech32_lookup::correction::correct_by_roots::<#a4f5505ff1a120c3> */
 static void f42(Machine *m, u64 l0, u64 l1, u64 l2, u64 l3, u64 l4, u64 l5) {
     u32 l8 = 0, l12 = 0, l17 = 0, w0;
     u64 l6 = 0, l7 = 0, l9 = 0, l10 = 0, l11 = 0, l13 = 0, l14 = 0, l15 = 0, l16 = 0, l18 = 0, l19 = 0, t0, t1, t2;
@@ -10170,7 +10360,7 @@ static void f42(Machine *m, u64 l0, u64 l1, u64 l2, u64 l3, u64 l4, u64 l5) {
     I64_STORE(m, l7 + 200u, 1285ull);
     t0 = l7 + 224ull;
     t1 = l7 + 200ull;
-    f66(m, t0, l1, t1, l2, l3, l4, l5);
+    f64(m, t0, l1, t1, l2, l3, l4, l5);
     w0 = I32_LOAD8_U(m, l7 + 224u);
     if (w0) goto L5;
     w0 = I32_LOAD8_U(m, l7 + 232u);
@@ -10474,7 +10664,7 @@ static void f42(Machine *m, u64 l0, u64 l1, u64 l2, u64 l3, u64 l4, u64 l5) {
     w0 = l5 != 0ull;
     if (w0) goto L17;
     L3:;
-    w0 = f67(m, l6, l14, l3);
+    w0 = f65(m, l6, l14, l3);
     w0 = w0 == 0;
     if (w0) goto L25;
     t0 = l7 + 72ull;
@@ -10542,50 +10732,8 @@ static void f42(Machine *m, u64 l0, u64 l1, u64 l2, u64 l3, u64 l4, u64 l5) {
     m->stack_pointer = t0;
 }
 
-/* std_alloc::vec::Vec::drop::<#1ee25f09b0f57226> */
-static void f43(Machine *m, u64 l0) {
-    u32 w0;
-    u64 l1 = 0, l2 = 0, l3 = 0, t0, t1, t2;
-    t0 = I64_LOAD(m, l0 + 16u);
-    l1 = t0;
-    w0 = l1 == 0;
-    if (w0) goto L1;
-    t0 = I64_LOAD(m, l0 + 24u);
-    t0 = I64_LOAD(m, t0);
-    l2 = t0;
-    t0 = l2 + 16ull;
-    t0 = I64_LOAD(m, t0);
-    w0 = t0 != 1ull;
-    if (w0) goto L2;
-    t0 = I64_LOAD(m, l0);
-    t1 = l2 + 8ull;
-    t1 = I64_LOAD(m, t1);
-    l0 = t1;
-    t1 = I64_LOAD(m, l0);
-    t2 = l0 + 32ull;
-    l0 = t2;
-    t2 = I64_LOAD(m, l0);
-    l3 = t2;
-    t1 = t1 + l3;
-    w0 = t0 != t1;
-    if (w0) goto L2;
-    t0 = l1 << 3;
-    t0 = l3 + t0;
-    I64_STORE(m, l0, t0);
-    L2:;
-    t0 = l2 + 24ull;
-    l0 = t0;
-    t0 = I64_LOAD(m, l0);
-    t0 = t0 + 18446744073709551615ull;
-    I64_STORE(m, l0, t0);
-    L1:;
-    return;
-    TRAP(m);
-    return;
-}
-
-/* bech32_finders::erased::eliminated_values::<#ff86a0b986cb5a24> */
-static void f44(Machine *m, u64 l0, u64 l1, u64 l2, u64 l3) {
+/* bech32_lookup::erased::eliminated_values::<#ff86a0b986cb5a24> */
+static void f43(Machine *m, u64 l0, u64 l1, u64 l2, u64 l3) {
     u32 l12 = 0, l13 = 0, l14 = 0, l15 = 0, l16 = 0, l17 = 0, l18 = 0, l19 = 0, l20 = 0, l21 = 0, l22 = 0, l23 = 0, l24 = 0, l25 = 0, l26 = 0, w0;
     u32 w1;
     u64 l4 = 0, l5 = 0, l6 = 0, l7 = 0, l8 = 0, l9 = 0, l10 = 0, l11 = 0, t0, t1, t2, t3;
@@ -11749,7 +11897,7 @@ static void f44(Machine *m, u64 l0, u64 l1, u64 l2, u64 l3) {
     MEMORY_COPY(m, t0, t1, 650ull);
     t0 = l4 + 1944ull;
     t1 = l4 + 1294ull;
-    f65(m, t0, t1, l3, 15ull);
+    f63(m, t0, t1, l3, 15ull);
     w0 = I32_LOAD8_U(m, l4 + 1944u);
     I32_STORE8(m, l0, w0);
     t0 = l0 + 1ull;
@@ -11772,8 +11920,8 @@ static void f44(Machine *m, u64 l0, u64 l1, u64 l2, u64 l3) {
     m->stack_pointer = t0;
 }
 
-/* bech32_finders::correction::correct_by_roots::<#caf49f828756fa55> */
-static void f45(Machine *m, u64 l0, u64 l1, u64 l2, u64 l3, u64 l4, u64 l5) {
+/* bech32_lookup::correction::correct_by_roots::<#caf49f828756fa55> */
+static void f44(Machine *m, u64 l0, u64 l1, u64 l2, u64 l3, u64 l4, u64 l5) {
     u32 l8 = 0, l12 = 0, l17 = 0, w0;
     u64 l6 = 0, l7 = 0, l9 = 0, l10 = 0, l11 = 0, l13 = 0, l14 = 0, l15 = 0, l16 = 0, l18 = 0, l19 = 0, t0, t1, t2;
     FRAME(m, 528u);
@@ -11793,7 +11941,7 @@ static void f45(Machine *m, u64 l0, u64 l1, u64 l2, u64 l3, u64 l4, u64 l5) {
     I64_STORE(m, l7 + 216u, 1561ull);
     t0 = l7 + 240ull;
     t1 = l7 + 216ull;
-    f66(m, t0, l1, t1, l2, l3, l4, l5);
+    f64(m, t0, l1, t1, l2, l3, l4, l5);
     w0 = I32_LOAD8_U(m, l7 + 240u);
     if (w0) goto L5;
     w0 = I32_LOAD8_U(m, l7 + 248u);
@@ -12105,7 +12253,7 @@ static void f45(Machine *m, u64 l0, u64 l1, u64 l2, u64 l3, u64 l4, u64 l5) {
     w0 = l5 != 0ull;
     if (w0) goto L17;
     L3:;
-    w0 = f67(m, l1, l14, l3);
+    w0 = f65(m, l1, l14, l3);
     w0 = w0 == 0;
     if (w0) goto L25;
     t0 = l7 + 88ull;
@@ -12173,50 +12321,8 @@ static void f45(Machine *m, u64 l0, u64 l1, u64 l2, u64 l3, u64 l4, u64 l5) {
     m->stack_pointer = t0;
 }
 
-/* std_alloc::vec::Vec::drop::<#bb43c09bf2d2a5ee> */
-static void f46(Machine *m, u64 l0) {
-    u32 w0;
-    u64 l1 = 0, l2 = 0, l3 = 0, t0, t1, t2;
-    t0 = I64_LOAD(m, l0 + 16u);
-    l1 = t0;
-    w0 = l1 == 0;
-    if (w0) goto L1;
-    t0 = I64_LOAD(m, l0 + 24u);
-    t0 = I64_LOAD(m, t0);
-    l2 = t0;
-    t0 = l2 + 16ull;
-    t0 = I64_LOAD(m, t0);
-    w0 = t0 != 1ull;
-    if (w0) goto L2;
-    t0 = I64_LOAD(m, l0);
-    t1 = l2 + 8ull;
-    t1 = I64_LOAD(m, t1);
-    l0 = t1;
-    t1 = I64_LOAD(m, l0);
-    t2 = l0 + 32ull;
-    l0 = t2;
-    t2 = I64_LOAD(m, l0);
-    l3 = t2;
-    t1 = t1 + l3;
-    w0 = t0 != t1;
-    if (w0) goto L2;
-    t0 = l1 << 1;
-    t0 = l3 + t0;
-    I64_STORE(m, l0, t0);
-    L2:;
-    t0 = l2 + 24ull;
-    l0 = t0;
-    t0 = I64_LOAD(m, l0);
-    t0 = t0 + 18446744073709551615ull;
-    I64_STORE(m, l0, t0);
-    L1:;
-    return;
-    TRAP(m);
-    return;
-}
-
 /* codex32::mending::mended_in::<#5cbb2588ac938988> */
-static void f47(Machine *m, u64 l0, u64 l1, u64 l2, u64 l3, u64 l4, u64 l5) {
+static void f45(Machine *m, u64 l0, u64 l1, u64 l2, u64 l3, u64 l4, u64 l5) {
     u32 l8 = 0, l12 = 0, w0, w1;
     u64 l6 = 0, l7 = 0, l9 = 0, l10 = 0, l11 = 0, t0, t1;
     FRAME(m, 224u);
@@ -12316,7 +12422,7 @@ static void f47(Machine *m, u64 l0, u64 l1, u64 l2, u64 l3, u64 l4, u64 l5) {
     w0 = l2 == 0;
     if (w0) goto L3;
     t0 = l7 + 184ull;
-    w0 = f52(m, t0, l2);
+    w0 = f50(m, t0, l2);
     l12 = w0;
     t0 = I64_LOAD(m, l7 + 184u);
     l6 = t0;
@@ -12434,7 +12540,7 @@ static void f47(Machine *m, u64 l0, u64 l1, u64 l2, u64 l3, u64 l4, u64 l5) {
 }
 
 /* codex32::damaged::is_separator */
-static u32 f48(Machine *m, u32 l0) {
+static u32 f46(Machine *m, u32 l0) {
     u32 w0;
     w0 = l0 & 255u;
     w0 = w0 == 49u;
@@ -12444,13 +12550,13 @@ static u32 f48(Machine *m, u32 l0) {
 }
 
 /* codex32::damaged::is_data_character */
-static u32 f49(Machine *m, u32 l0) {
+static u32 f47(Machine *m, u32 l0) {
     u32 l2 = 0, l3 = 0, l4 = 0, w0, w1;
     w0 = l0 < 128u;
     if (w0) goto L1;
     return 0u;
     L1:;
-    w0 = f51(m, l0);
+    w0 = f49(m, l0);
     w0 = w0 == 0;
     if (w0) goto L2;
     return 1u;
@@ -12491,7 +12597,7 @@ static u32 f49(Machine *m, u32 l0) {
 }
 
 /* codex32::damaged::unseparated */
-static void f50(Machine *m, u64 l0, u32 l1, u64 l2, u64 l3) {
+static void f48(Machine *m, u64 l0, u32 l1, u64 l2, u64 l3) {
     u32 w0;
     u64 l4 = 0, t0, t1;
     FRAME(m, 80u);
@@ -12541,7 +12647,7 @@ static void f50(Machine *m, u64 l0, u32 l1, u64 l2, u64 l3) {
 }
 
 /* codex32::unreadable::is_unreadable */
-static u32 f51(Machine *m, u32 l0) {
+static u32 f49(Machine *m, u32 l0) {
     u32 w0;
     w0 = l0 & 255u;
     w0 = w0 == 63u;
@@ -12551,7 +12657,7 @@ static u32 f51(Machine *m, u32 l0) {
 }
 
 /* std_alloc::vec::Vec::move_to::<#e370cc7bdd107069> */
-static u32 f52(Machine *m, u64 l0, u64 l1) {
+static u32 f50(Machine *m, u64 l0, u64 l1) {
     u32 l4 = 0, l15 = 0, w0;
     u64 l2 = 0, l3 = 0, l5 = 0, l6 = 0, l7 = 0, l8 = 0, l9 = 0, l10 = 0, l11 = 0, l12 = 0, l13 = 0, l14 = 0, t0, t1;
     FRAME(m, 32u);
@@ -12690,7 +12796,7 @@ static u32 f52(Machine *m, u64 l0, u64 l1) {
     goto L4;
     L5:;
     t0 = l3 + 16ull;
-    f54(m, t0, l5, l1, 1ull);
+    f52(m, t0, l5, l1, 1ull);
     t0 = I64_LOAD(m, l3 + 24u);
     l12 = t0;
     w0 = I32_LOAD8_U(m, l3 + 16u);
@@ -12812,7 +12918,7 @@ static u32 f52(Machine *m, u64 l0, u64 l1) {
     l15 = 1u;
     goto L18;
     L19:;
-    f54(m, l3, l5, l1, 1ull);
+    f52(m, l3, l5, l1, 1ull);
     t0 = I64_LOAD(m, l3 + 8u);
     l12 = t0;
     w0 = I32_LOAD8_U(m, l3);
@@ -12843,7 +12949,7 @@ static u32 f52(Machine *m, u64 l0, u64 l1) {
 }
 
 /* std_alloc::vec::Vec::grow_amortized::<#e370cc7bdd107069> */
-static u32 f53(Machine *m, u64 l0) {
+static u32 f51(Machine *m, u64 l0) {
     u32 l5 = 0, w0;
     u64 l2 = 0, l3 = 0, l4 = 0, t0;
     t0 = l0 + 8ull;
@@ -12866,7 +12972,7 @@ static u32 f53(Machine *m, u64 l0) {
     t0 = w0 ? l2 : l4;
     w0 = l3 < 4611686018427387904ull;
     t0 = w0 ? t0 : l2;
-    w0 = f52(m, l0, t0);
+    w0 = f50(m, l0, t0);
     l5 = w0;
     return l5;
     TRAP(m);
@@ -12874,7 +12980,7 @@ static u32 f53(Machine *m, u64 l0) {
 }
 
 /* bumpalo::bump::Bump::alloc_layout_slow::<#76ce7701d75dc99b> */
-static void f54(Machine *m, u64 l0, u64 l1, u64 l2, u64 l3) {
+static void f52(Machine *m, u64 l0, u64 l1, u64 l2, u64 l3) {
     u32 l7 = 0, l8 = 0, l9 = 0, l17 = 0, w0, w1, w2;
     u64 l4 = 0, l5 = 0, l6 = 0, l10 = 0, l11 = 0, l12 = 0, l13 = 0, l14 = 0, l15 = 0, l16 = 0, l18 = 0, l19 = 0, l20 = 0, t0, t1;
     l4 = 0ull;
@@ -13081,7 +13187,7 @@ static void f54(Machine *m, u64 l0, u64 l1, u64 l2, u64 l3) {
 }
 
 /* std_alloc::vec::Vec::grow_amortized::<#294c06f162e3ba33> */
-static u32 f55(Machine *m, u64 l0) {
+static u32 f53(Machine *m, u64 l0) {
     u32 l2 = 0, l8 = 0, l10 = 0, w0;
     u64 l1 = 0, l3 = 0, l4 = 0, l5 = 0, l6 = 0, l7 = 0, l9 = 0, t0, t1;
     FRAME(m, 32u);
@@ -13118,7 +13224,7 @@ static u32 f55(Machine *m, u64 l0) {
     if (w0) goto L3;
     t0 = l1 + 16ull;
     t1 = I64_LOAD(m, l0);
-    f56(m, t0, l7, t1, l3, l5, l4);
+    f54(m, t0, l7, t1, l3, l5, l4);
     t0 = I64_LOAD(m, l1 + 24u);
     l3 = t0;
     w0 = I32_LOAD8_U(m, l1 + 16u);
@@ -13152,7 +13258,7 @@ static u32 f55(Machine *m, u64 l0) {
     l10 = 1u;
     goto L4;
     L5:;
-    f54(m, l1, l5, l3, 8ull);
+    f52(m, l1, l5, l3, 8ull);
     t0 = I64_LOAD(m, l1 + 8u);
     l3 = t0;
     w0 = I32_LOAD8_U(m, l1);
@@ -13192,7 +13298,7 @@ static u32 f55(Machine *m, u64 l0) {
 }
 
 /* core::alloc::RefAllocator::grow::<#1a1cd8ab3b16cf3c> */
-static void f56(Machine *m, u64 l0, u64 l1, u64 l2, u64 l3, u64 l4, u64 l5) {
+static void f54(Machine *m, u64 l0, u64 l1, u64 l2, u64 l3, u64 l4, u64 l5) {
     u32 l12 = 0, l14 = 0, w0;
     u64 l6 = 0, l7 = 0, l8 = 0, l9 = 0, l10 = 0, l11 = 0, l13 = 0, t0, t1;
     FRAME(m, 16u);
@@ -13339,7 +13445,7 @@ static void f56(Machine *m, u64 l0, u64 l1, u64 l2, u64 l3, u64 l4, u64 l5) {
     l14 = 1u;
     goto L3;
     L4:;
-    f54(m, l7, l8, l1, 8ull);
+    f52(m, l7, l8, l1, 8ull);
     t0 = I64_LOAD(m, l7 + 8u);
     l13 = t0;
     w0 = I32_LOAD8_U(m, l7);
@@ -13463,7 +13569,7 @@ static void f56(Machine *m, u64 l0, u64 l1, u64 l2, u64 l3, u64 l4, u64 l5) {
 }
 
 /* smallvec::small_vec::SmallVec::reserve_one::<#8f284c9c7421dfec> */
-static u32 f57(Machine *m, u64 l0) {
+static u32 f55(Machine *m, u64 l0) {
     u32 l2 = 0, l5 = 0, w0;
     u64 l1 = 0, l3 = 0, l4 = 0, l6 = 0, l7 = 0, l8 = 0, l9 = 0, l10 = 0, l11 = 0, l12 = 0, l13 = 0, t0, t1, t2;
     FRAME(m, 192u);
@@ -13671,7 +13777,7 @@ static u32 f57(Machine *m, u64 l0) {
     t0 = l1 + 184ull;
     I64_STORE(m, l1 + 152u, t0);
     t0 = l1 + 152ull;
-    w0 = f58(m, t0, l6);
+    w0 = f56(m, t0, l6);
     w0 = w0 & 255u;
     if (w0) goto L16;
     t0 = l0 + 8ull;
@@ -13871,7 +13977,7 @@ static u32 f57(Machine *m, u64 l0) {
     L22:;
     t0 = l0 + 8ull;
     t1 = l6 - l3;
-    w0 = f58(m, t0, t1);
+    w0 = f56(m, t0, t1);
     w0 = w0 & 255u;
     l5 = w0;
     L3:;
@@ -13883,7 +13989,7 @@ static u32 f57(Machine *m, u64 l0) {
 }
 
 /* std_alloc::vec::Vec::reserve_exact::<#575e5fa75ed1daa9> */
-static u32 f58(Machine *m, u64 l0, u64 l1) {
+static u32 f56(Machine *m, u64 l0, u64 l1) {
     u32 l3 = 0, l7 = 0, l10 = 0, w0;
     u64 l2 = 0, l4 = 0, l5 = 0, l6 = 0, l8 = 0, l9 = 0, t0, t1;
     FRAME(m, 32u);
@@ -13916,7 +14022,7 @@ static u32 f58(Machine *m, u64 l0, u64 l1) {
     if (w0) goto L3;
     t0 = l2 + 16ull;
     t1 = I64_LOAD(m, l0);
-    f56(m, t0, l6, t1, l5, l4, l1);
+    f54(m, t0, l6, t1, l5, l4, l1);
     t0 = I64_LOAD(m, l2 + 24u);
     l5 = t0;
     w0 = I32_LOAD8_U(m, l2 + 16u);
@@ -13950,7 +14056,7 @@ static u32 f58(Machine *m, u64 l0, u64 l1) {
     l10 = 1u;
     goto L4;
     L5:;
-    f54(m, l2, l4, l5, 8ull);
+    f52(m, l2, l4, l5, 8ull);
     t0 = I64_LOAD(m, l2 + 8u);
     l5 = t0;
     w0 = I32_LOAD8_U(m, l2);
@@ -13990,7 +14096,7 @@ static u32 f58(Machine *m, u64 l0, u64 l1) {
 }
 
 /* smallvec::small_vec::SmallVec::reserve_one::<#724e270f0347bf80> */
-static u32 f59(Machine *m, u64 l0) {
+static u32 f57(Machine *m, u64 l0) {
     u32 l3 = 0, l5 = 0, w0;
     u64 l1 = 0, l2 = 0, l4 = 0, l6 = 0, l7 = 0, l8 = 0, l9 = 0, l10 = 0, l11 = 0, l12 = 0, t0, t1, t2;
     FRAME(m, 80u);
@@ -14199,7 +14305,7 @@ static u32 f59(Machine *m, u64 l0) {
     t0 = l2 + 79ull;
     I64_STORE(m, l2 + 40u, t0);
     t0 = l2 + 40ull;
-    w0 = f61(m, t0, l6);
+    w0 = f59(m, t0, l6);
     w0 = w0 & 255u;
     if (w0) goto L12;
     t0 = l0 + 8ull;
@@ -14351,7 +14457,7 @@ static u32 f59(Machine *m, u64 l0) {
     L19:;
     t0 = l0 + 8ull;
     t1 = l6 - l1;
-    w0 = f61(m, t0, t1);
+    w0 = f59(m, t0, t1);
     w0 = w0 & 255u;
     l5 = w0;
     L3:;
@@ -14363,7 +14469,7 @@ static u32 f59(Machine *m, u64 l0) {
 }
 
 /* bech32_gf_ext::fe1024::Fe1024OperationsArithmetic::times */
-static void f60(Machine *m, u64 l0, u32 l1, u32 l2) {
+static void f58(Machine *m, u64 l0, u32 l1, u32 l2) {
     u32 l3 = 0, l4 = 0, l5 = 0, l6 = 0, w0, w1;
     u64 t0;
     w0 = l2 & 65280u;
@@ -14449,7 +14555,7 @@ static void f60(Machine *m, u64 l0, u32 l1, u32 l2) {
 }
 
 /* std_alloc::vec::Vec::reserve_exact::<#50e99c357dea2e90> */
-static u32 f61(Machine *m, u64 l0, u64 l1) {
+static u32 f59(Machine *m, u64 l0, u64 l1) {
     u32 l3 = 0, l14 = 0, w0;
     u64 l2 = 0, l4 = 0, l5 = 0, l6 = 0, l7 = 0, l8 = 0, l9 = 0, l10 = 0, l11 = 0, l12 = 0, l13 = 0, t0, t1;
     FRAME(m, 32u);
@@ -14614,7 +14720,7 @@ static u32 f61(Machine *m, u64 l0, u64 l1) {
     goto L4;
     L5:;
     t0 = l2 + 16ull;
-    f54(m, t0, l8, l9, 1ull);
+    f52(m, t0, l8, l9, 1ull);
     t0 = I64_LOAD(m, l2 + 24u);
     l13 = t0;
     w0 = I32_LOAD8_U(m, l2 + 16u);
@@ -14753,7 +14859,7 @@ static u32 f61(Machine *m, u64 l0, u64 l1) {
     l14 = 1u;
     goto L20;
     L21:;
-    f54(m, l2, l5, l1, 1ull);
+    f52(m, l2, l5, l1, 1ull);
     t0 = I64_LOAD(m, l2 + 8u);
     l13 = t0;
     w0 = I32_LOAD8_U(m, l2);
@@ -14785,7 +14891,7 @@ static u32 f61(Machine *m, u64 l0, u64 l1) {
 }
 
 /* std_alloc::vec::Vec::drop::<#956a71552efe874e> */
-static void f62(Machine *m, u64 l0) {
+static void f60(Machine *m, u64 l0) {
     u32 w0;
     u64 l1 = 0, l2 = 0, l3 = 0, t0, t1, t2;
     t0 = I64_LOAD(m, l0 + 16u);
@@ -14827,7 +14933,7 @@ static void f62(Machine *m, u64 l0) {
 }
 
 /* smallvec::small_vec::SmallVec::reserve_one::<#dc62b9374da428b4> */
-static u32 f63(Machine *m, u64 l0) {
+static u32 f61(Machine *m, u64 l0) {
     u32 l3 = 0, l5 = 0, w0;
     u64 l1 = 0, l2 = 0, l4 = 0, l6 = 0, l7 = 0, l8 = 0, l9 = 0, l10 = 0, l11 = 0, l12 = 0, l13 = 0, l14 = 0, l15 = 0, t0, t1, t2;
     FRAME(m, 304u);
@@ -15052,7 +15158,7 @@ static u32 f63(Machine *m, u64 l0) {
     t0 = l2 + 296ull;
     I64_STORE(m, l2 + 264u, t0);
     t0 = l2 + 264ull;
-    w0 = f64(m, t0, l6);
+    w0 = f62(m, t0, l6);
     w0 = w0 & 255u;
     if (w0) goto L16;
     t0 = l0 + 8ull;
@@ -15284,7 +15390,7 @@ static u32 f63(Machine *m, u64 l0) {
     L22:;
     t0 = l0 + 8ull;
     t1 = l6 - l1;
-    w0 = f64(m, t0, t1);
+    w0 = f62(m, t0, t1);
     w0 = w0 & 255u;
     l5 = w0;
     L3:;
@@ -15296,7 +15402,7 @@ static u32 f63(Machine *m, u64 l0) {
 }
 
 /* std_alloc::vec::Vec::reserve_exact::<#c2d7bb32c85867fc> */
-static u32 f64(Machine *m, u64 l0, u64 l1) {
+static u32 f62(Machine *m, u64 l0, u64 l1) {
     u32 l3 = 0, l15 = 0, w0;
     u64 l2 = 0, l4 = 0, l5 = 0, l6 = 0, l7 = 0, l8 = 0, l9 = 0, l10 = 0, l11 = 0, l12 = 0, l13 = 0, l14 = 0, t0, t1;
     FRAME(m, 32u);
@@ -15484,7 +15590,7 @@ static u32 f64(Machine *m, u64 l0, u64 l1) {
     goto L4;
     L5:;
     t0 = l2 + 16ull;
-    f54(m, t0, l8, l9, 8ull);
+    f52(m, t0, l8, l9, 8ull);
     t0 = I64_LOAD(m, l2 + 24u);
     l13 = t0;
     w0 = I32_LOAD8_U(m, l2 + 16u);
@@ -15645,7 +15751,7 @@ static u32 f64(Machine *m, u64 l0, u64 l1) {
     l15 = 1u;
     goto L20;
     L21:;
-    f54(m, l2, l5, l1, 8ull);
+    f52(m, l2, l5, l1, 8ull);
     t0 = I64_LOAD(m, l2 + 8u);
     l13 = t0;
     w0 = I32_LOAD8_U(m, l2);
@@ -15676,8 +15782,8 @@ static u32 f64(Machine *m, u64 l0, u64 l1) {
     return 0;
 }
 
-/* bech32_finders::erased::values_of */
-static void f65(Machine *m, u64 l0, u64 l1, u64 l2, u64 l3) {
+/* bech32_lookup::erased::values_of */
+static void f63(Machine *m, u64 l0, u64 l1, u64 l2, u64 l3) {
     u32 l7 = 0, l24 = 0, w0, w1;
     u64 l4 = 0, l5 = 0, l6 = 0, l8 = 0, l9 = 0, l10 = 0, l11 = 0, l12 = 0, l13 = 0, l14 = 0, l15 = 0, l16 = 0, l17 = 0, l18 = 0, l19 = 0, l20 = 0;
     u64 l21 = 0, l22 = 0, l23 = 0, t0, t1;
@@ -15987,7 +16093,7 @@ static void f65(Machine *m, u64 l0, u64 l1, u64 l2, u64 l3) {
     w0 = I32_LOAD8_U(m, l5 + 56u);
     I32_STORE8(m, l5 + 120u, w0);
     t0 = l2 + 18446744073709551615ull;
-    f65(m, l5, l1, t0, l3);
+    f63(m, l5, l1, t0, l3);
     w0 = I32_LOAD8_U(m, l5);
     w0 = w0 != 1u;
     if (w0) goto L22;
@@ -16073,7 +16179,7 @@ static void f65(Machine *m, u64 l0, u64 l1, u64 l2, u64 l3) {
 }
 
 /* bech32_bch::decoder::decode_errors::<#a5ecb4d5f49d4d25> */
-static void f66(Machine *m, u64 l0, u64 l1, u64 l2, u64 l3, u64 l4, u64 l5, u64 l6) {
+static void f64(Machine *m, u64 l0, u64 l1, u64 l2, u64 l3, u64 l4, u64 l5, u64 l6) {
     u32 l10 = 0, l11 = 0, l12 = 0, l13 = 0, l16 = 0, l18 = 0, l21 = 0, l22 = 0, l23 = 0, l24 = 0, l28 = 0, l30 = 0, l34 = 0, l36 = 0, l38 = 0, l40 = 0;
     u32 w0, w1, w2, w3;
     u64 l7 = 0, l8 = 0, l9 = 0, l14 = 0, l15 = 0, l17 = 0, l19 = 0, l20 = 0, l25 = 0, l26 = 0, l27 = 0, l29 = 0, l31 = 0, l32 = 0, l33 = 0, l35 = 0;
@@ -16148,10 +16254,10 @@ static void f66(Machine *m, u64 l0, u64 l1, u64 l2, u64 l3, u64 l4, u64 l5, u64 
     if (w0) goto L10;
     t0 = l7 + 1176ull;
     w0 = I32_LOAD16_U(m, l7 + 1176u);
-    f60(m, t0, w0, l12);
+    f58(m, t0, w0, l12);
     L10:;
     t0 = l7 + 1048ull;
-    f60(m, t0, l12, l12);
+    f58(m, t0, l12, l12);
     t0 = l2 >> 1;
     l2 = t0;
     w0 = l2 != 0ull;
@@ -16332,7 +16438,7 @@ static void f66(Machine *m, u64 l0, u64 l1, u64 l2, u64 l3, u64 l4, u64 l5, u64 
     w0 = t0 != t1;
     if (w0) goto L26;
     t0 = l7 + 1256ull;
-    w0 = f59(m, t0);
+    w0 = f57(m, t0);
     l22 = w0;
     w0 = I32_LOAD8_U(m, l7 + 1256u);
     l10 = w0;
@@ -16364,7 +16470,7 @@ static void f66(Machine *m, u64 l0, u64 l1, u64 l2, u64 l3, u64 l4, u64 l5, u64 
     I64_STORE(m, l7 + 1272u, t0);
     L27:;
     t0 = l7 + 968ull;
-    f60(m, t0, l11, l16);
+    f58(m, t0, l11, l16);
     t0 = l15 + 1ull;
     l15 = t0;
     w0 = l15 != l8;
@@ -16491,7 +16597,7 @@ static void f66(Machine *m, u64 l0, u64 l1, u64 l2, u64 l3, u64 l4, u64 l5, u64 
     I64_STORE(m, l7 + 1288u, 0ull);
     I64_STORE(m, l7 + 1296u, 0ull);
     t0 = l7 + 1256ull;
-    f68(m, t0, l1, l4, l2, l19, l17);
+    f66(m, t0, l1, l4, l2, l19, l17);
     w0 = I32_LOAD8_U(m, l7 + 1256u);
     if (w0) goto L2;
     t0 = l2 - l15;
@@ -16691,10 +16797,10 @@ static void f66(Machine *m, u64 l0, u64 l1, u64 l2, u64 l3, u64 l4, u64 l5, u64 
     w0 = l36 << 8;
     w1 = l30 & 255u;
     w0 = w0 | w1;
-    f69(m, t0, w0);
+    f67(m, t0, w0);
     t0 = l7 + 840ull;
     w0 = I32_LOAD16_U(m, l7 + 926u);
-    f60(m, t0, l12, w0);
+    f58(m, t0, l12, w0);
     w0 = I32_LOAD16_U(m, l7 + 840u);
     l10 = w0;
     w0 = l14 >= l33;
@@ -16724,7 +16830,7 @@ static void f66(Machine *m, u64 l0, u64 l1, u64 l2, u64 l3, u64 l4, u64 l5, u64 
     l12 = w0;
     t0 = l7 + 1048ull;
     w0 = I32_LOAD16_U(m, l4);
-    f60(m, t0, l10, w0);
+    f58(m, t0, l10, w0);
     w0 = I32_LOAD16_U(m, l7 + 1048u);
     w0 = l12 ^ w0;
     I32_STORE16(m, l2, w0);
@@ -16763,7 +16869,7 @@ static void f66(Machine *m, u64 l0, u64 l1, u64 l2, u64 l3, u64 l4, u64 l5, u64 
     w0 = t0 != t1;
     if (w0) goto L45;
     t0 = l7 + 1048ull;
-    w0 = f59(m, t0);
+    w0 = f57(m, t0);
     l21 = w0;
     w0 = I32_LOAD8_U(m, l7 + 1048u);
     l12 = w0;
@@ -16810,7 +16916,7 @@ static void f66(Machine *m, u64 l0, u64 l1, u64 l2, u64 l3, u64 l4, u64 l5, u64 
     w0 = t0 != t1;
     if (w0) goto L50;
     t0 = l7 + 1048ull;
-    w0 = f59(m, t0);
+    w0 = f57(m, t0);
     l22 = w0;
     w0 = I32_LOAD8_U(m, l7 + 1048u);
     l12 = w0;
@@ -16918,7 +17024,7 @@ static void f66(Machine *m, u64 l0, u64 l1, u64 l2, u64 l3, u64 l4, u64 l5, u64 
     l12 = w0;
     t0 = l7 + 1048ull;
     w0 = I32_LOAD16_U(m, l4);
-    f60(m, t0, l10, w0);
+    f58(m, t0, l10, w0);
     w0 = I32_LOAD16_U(m, l7 + 1048u);
     w0 = l12 ^ w0;
     I32_STORE16(m, l2, w0);
@@ -17299,7 +17405,7 @@ static void f66(Machine *m, u64 l0, u64 l1, u64 l2, u64 l3, u64 l4, u64 l5, u64 
     l39 = t2;
     t2 = I64_LOAD(m, l7 + 600u);
     t2 = l12 ? l39 : t2;
-    f70(m, t0, l1, t1, t2);
+    f68(m, t0, l1, t1, t2);
     w0 = I32_LOAD8_U(m, l7 + 968u);
     if (w0) goto L70;
     w0 = I32_LOAD8_U(m, l7 + 976u);
@@ -17342,7 +17448,7 @@ static void f66(Machine *m, u64 l0, u64 l1, u64 l2, u64 l3, u64 l4, u64 l5, u64 
     w0 = t0 != t1;
     if (w0) goto L74;
     t0 = l7 + 928ull;
-    w0 = f59(m, t0);
+    w0 = f57(m, t0);
     l21 = w0;
     w0 = I32_LOAD8_U(m, l7 + 928u);
     l12 = w0;
@@ -17370,7 +17476,7 @@ static void f66(Machine *m, u64 l0, u64 l1, u64 l2, u64 l3, u64 l4, u64 l5, u64 
     I64_STORE(m, l7 + 944u, t0);
     L75:;
     t0 = l7 + 926ull;
-    f60(m, t0, l10, l11);
+    f58(m, t0, l10, l11);
     t0 = l2 + 18446744073709551615ull;
     l2 = t0;
     w0 = l2 == 0;
@@ -17492,7 +17598,7 @@ static void f66(Machine *m, u64 l0, u64 l1, u64 l2, u64 l3, u64 l4, u64 l5, u64 
     w0 = l6 != t0;
     if (w0) goto L85;
     t0 = l7 + 1256ull;
-    w0 = f57(m, t0);
+    w0 = f55(m, t0);
     w0 = w0 & 255u;
     w0 = w0 == 0;
     if (w0) goto L86;
@@ -17952,7 +18058,7 @@ static void f66(Machine *m, u64 l0, u64 l1, u64 l2, u64 l3, u64 l4, u64 l5, u64 
     w0 = t0 != t1;
     if (w0) goto L118;
     t0 = l7 + 1256ull;
-    w0 = f57(m, t0);
+    w0 = f55(m, t0);
     w0 = w0 & 255u;
     if (w0) goto L106;
     w0 = I32_LOAD8_U(m, l7 + 1256u);
@@ -18005,7 +18111,7 @@ static void f66(Machine *m, u64 l0, u64 l1, u64 l2, u64 l3, u64 l4, u64 l5, u64 
     w0 = t0 != t1;
     if (w0) goto L122;
     t0 = l7 + 1256ull;
-    w0 = f57(m, t0);
+    w0 = f55(m, t0);
     w0 = w0 & 255u;
     if (w0) goto L106;
     w0 = I32_LOAD8_U(m, l7 + 1256u);
@@ -18303,7 +18409,7 @@ static void f66(Machine *m, u64 l0, u64 l1, u64 l2, u64 l3, u64 l4, u64 l5, u64 
     t0 = I64_LOAD(m, l7 + 392u);
     I64_STORE(m, l7 + 32u, t0);
     t0 = l7 + 32ull;
-    f62(m, t0);
+    f60(m, t0);
     L137:;
     I32_STORE8(m, l0, 0u);
     t0 = l0 + 8ull;
@@ -18375,7 +18481,7 @@ static void f66(Machine *m, u64 l0, u64 l1, u64 l2, u64 l3, u64 l4, u64 l5, u64 
     w0 = t0 != t1;
     if (w0) goto L155;
     t0 = l7 + 1256ull;
-    w0 = f57(m, t0);
+    w0 = f55(m, t0);
     l10 = w0;
     w0 = I32_LOAD8_U(m, l7 + 1256u);
     l12 = w0;
@@ -18476,7 +18582,7 @@ static void f66(Machine *m, u64 l0, u64 l1, u64 l2, u64 l3, u64 l4, u64 l5, u64 
     w0 = t0 != t1;
     if (w0) goto L160;
     t0 = l7 + 1176ull;
-    w0 = f57(m, t0);
+    w0 = f55(m, t0);
     l10 = w0;
     w0 = I32_LOAD8_U(m, l7 + 1176u);
     l12 = w0;
@@ -18677,7 +18783,7 @@ static void f66(Machine *m, u64 l0, u64 l1, u64 l2, u64 l3, u64 l4, u64 l5, u64 
     w0 = t0 != t1;
     if (w0) goto L169;
     t0 = l7 + 1176ull;
-    w0 = f59(m, t0);
+    w0 = f57(m, t0);
     l21 = w0;
     w0 = I32_LOAD8_U(m, l7 + 1176u);
     l12 = w0;
@@ -18931,7 +19037,7 @@ static void f66(Machine *m, u64 l0, u64 l1, u64 l2, u64 l3, u64 l4, u64 l5, u64 
     l20 = t1;
     t1 = l10 ? l2 : l17;
     l4 = t1;
-    f68(m, t0, l33, l41, l32, l20, l4);
+    f66(m, t0, l33, l41, l32, l20, l4);
     l21 = 0u;
     l12 = 0u;
     w0 = I32_LOAD8_U(m, l7 + 1176u);
@@ -18961,10 +19067,10 @@ static void f66(Machine *m, u64 l0, u64 l1, u64 l2, u64 l3, u64 l4, u64 l5, u64 
     if (w0) goto L186;
     t0 = l7 + 880ull;
     w0 = I32_LOAD16_U(m, l7 + 880u);
-    f60(m, t0, w0, l12);
+    f58(m, t0, w0, l12);
     L186:;
     t0 = l7 + 928ull;
-    f60(m, t0, l12, l12);
+    f58(m, t0, l12, l12);
     t0 = l2 >> 1;
     l2 = t0;
     w0 = l2 != 0ull;
@@ -18985,7 +19091,7 @@ static void f66(Machine *m, u64 l0, u64 l1, u64 l2, u64 l3, u64 l4, u64 l5, u64 
     w0 = I32_LOAD16_U(m, l2);
     w0 = w0 ^ l23;
     w1 = I32_LOAD16_U(m, l7 + 928u);
-    f60(m, t0, w0, w1);
+    f58(m, t0, w0, w1);
     t0 = l2 + 18446744073709551614ull;
     l2 = t0;
     t0 = l4 + 18446744073709551615ull;
@@ -18996,7 +19102,7 @@ static void f66(Machine *m, u64 l0, u64 l1, u64 l2, u64 l3, u64 l4, u64 l5, u64 
     l21 = w0;
     L187:;
     t0 = l7 + 840ull;
-    f60(m, t0, l12, l21);
+    f58(m, t0, l12, l21);
     w0 = I32_LOAD16_U(m, l7 + 840u);
     l12 = w0;
     if (l12) goto L190;
@@ -19014,10 +19120,10 @@ static void f66(Machine *m, u64 l0, u64 l1, u64 l2, u64 l3, u64 l4, u64 l5, u64 
     l21 = w0;
     L191:;
     t0 = l7 + 552ull;
-    f69(m, t0, l12);
+    f67(m, t0, l12);
     t0 = l7 + 584ull;
     w0 = I32_LOAD16_U(m, l7 + 552u);
-    f60(m, t0, l21, w0);
+    f58(m, t0, l21, w0);
     w0 = I32_LOAD16_U(m, l7 + 584u);
     l12 = w0;
     w0 = l12 < 256u;
@@ -19114,7 +19220,7 @@ static void f66(Machine *m, u64 l0, u64 l1, u64 l2, u64 l3, u64 l4, u64 l5, u64 
     w0 = t0 != t1;
     if (w0) goto L198;
     t0 = l7 + 1256ull;
-    w0 = f63(m, t0);
+    w0 = f61(m, t0);
     l10 = w0;
     w0 = I32_LOAD8_U(m, l7 + 1256u);
     l18 = w0;
@@ -19396,7 +19502,7 @@ static void f66(Machine *m, u64 l0, u64 l1, u64 l2, u64 l3, u64 l4, u64 l5, u64 
     w0 = l38 & 255u;
     w0 = w0 != 1u;
     if (w0) goto L213;
-    f71(m, l27);
+    f69(m, l27);
     L213:;
     w0 = I32_LOAD8_U(m, l7 + 384u);
     w0 = w0 != 1u;
@@ -19409,7 +19515,7 @@ static void f66(Machine *m, u64 l0, u64 l1, u64 l2, u64 l3, u64 l4, u64 l5, u64 
     I64_STORE(m, l7 + 8u, t0);
     t0 = I64_LOAD(m, l7 + 392u);
     I64_STORE(m, l7, t0);
-    f62(m, l7);
+    f60(m, l7);
     L214:;
     I32_STORE8(m, l0, l12);
     t0 = l0 + 16ull;
@@ -19424,8 +19530,8 @@ static void f66(Machine *m, u64 l0, u64 l1, u64 l2, u64 l3, u64 l4, u64 l5, u64 
     m->stack_pointer = t0;
 }
 
-/* bech32_finders::division::row_equals::<#ec7dd70f91e8cde7> */
-static u32 f67(Machine *m, u64 l0, u64 l1, u64 l2) {
+/* bech32_lookup::division::row_equals::<#ec7dd70f91e8cde7> */
+static u32 f65(Machine *m, u64 l0, u64 l1, u64 l2) {
     u32 l3 = 0, l4 = 0, w0, w1;
     u64 t0, t1;
     l3 = 0u;
@@ -19579,7 +19685,7 @@ static u32 f67(Machine *m, u64 l0, u64 l1, u64 l2) {
 }
 
 /* bech32_bch::terms::without_terms::<#cdbe8c79ff78e559> */
-static void f68(Machine *m, u64 l0, u64 l1, u64 l2, u64 l3, u64 l4, u64 l5) {
+static void f66(Machine *m, u64 l0, u64 l1, u64 l2, u64 l3, u64 l4, u64 l5) {
     u32 l9 = 0, l10 = 0, l11 = 0, l15 = 0, l18 = 0, l19 = 0, l20 = 0, l21 = 0, l22 = 0, w0, w1;
     u64 l6 = 0, l7 = 0, l8 = 0, l12 = 0, l13 = 0, l14 = 0, l16 = 0, l17 = 0, t0, t1;
     FRAME(m, 96u);
@@ -19595,7 +19701,7 @@ static void f68(Machine *m, u64 l0, u64 l1, u64 l2, u64 l3, u64 l4, u64 l5) {
     I64_STORE(m, l7 + 16u, 0ull);
     I64_STORE(m, l7 + 8u, 0ull);
     t0 = l7 + 8ull;
-    f70(m, t0, l1, l2, l3);
+    f68(m, t0, l1, l2, l3);
     w0 = I32_LOAD8_U(m, l7 + 8u);
     if (w0) goto L2;
     t0 = I64_LOAD8_U(m, l7 + 16u);
@@ -19791,7 +19897,7 @@ static void f68(Machine *m, u64 l0, u64 l1, u64 l2, u64 l3, u64 l4, u64 l5) {
 }
 
 /* bech32_gf_ext::fe1024::Fe1024OperationsArithmetic::inverse */
-static void f69(Machine *m, u64 l0, u32 l1) {
+static void f67(Machine *m, u64 l0, u32 l1) {
     u32 l2 = 0, l4 = 0, l5 = 0, l6 = 0, w0, w1;
     u64 l3 = 0, t0;
     w0 = l1 >> 8;
@@ -19887,7 +19993,7 @@ static void f69(Machine *m, u64 l0, u32 l1) {
 }
 
 /* bech32_poly::fieldvec::FieldVec::from_slice::<#02192599d267ef98> */
-static void f70(Machine *m, u64 l0, u64 l1, u64 l2, u64 l3) {
+static void f68(Machine *m, u64 l0, u64 l1, u64 l2, u64 l3) {
     u32 l6 = 0, l7 = 0, l8 = 0, w0;
     u64 l4 = 0, l5 = 0, t0, t1, t2;
     FRAME(m, 48u);
@@ -19919,7 +20025,7 @@ static void f70(Machine *m, u64 l0, u64 l1, u64 l2, u64 l3) {
     w0 = t0 != t1;
     if (w0) goto L5;
     t0 = l4 + 8ull;
-    w0 = f59(m, t0);
+    w0 = f57(m, t0);
     l8 = w0;
     w0 = I32_LOAD8_U(m, l4 + 8u);
     l7 = w0;
@@ -20029,7 +20135,7 @@ static void f70(Machine *m, u64 l0, u64 l1, u64 l2, u64 l3) {
 }
 
 /* std_alloc::vec::Vec::drop::<#04234d016ef95f59> */
-static void f71(Machine *m, u64 l0) {
+static void f69(Machine *m, u64 l0) {
     u32 w0;
     u64 l1 = 0, l2 = 0, l3 = 0, t0, t1, t2;
     t0 = I64_LOAD(m, l0 + 16u);
@@ -20071,7 +20177,7 @@ static void f71(Machine *m, u64 l0) {
 }
 
 /* codex32::splitting::are_equal */
-static u32 f72(Machine *m, u64 l0, u64 l1) {
+static u32 f70(Machine *m, u64 l0, u64 l1) {
     u32 l2 = 0, l4 = 0, l7 = 0, w0, w1;
     u64 l3 = 0, l5 = 0, l6 = 0, t0;
     l2 = 0u;
@@ -20151,14 +20257,14 @@ static u32 of_codex32_derive(Machine *m, u32 l0, u64 l1, u64 l2, u64 l3, u64 l4,
     TRAP(m);
     return 0;
     L0:;
-    w0 = f74(m, l0, l1, l2, l3, l4, l5, l6, l7);
+    w0 = f72(m, l0, l1, l2, l3, l4, l5, l6, l7);
     l0 = w0;
     LEAVE(m);
     return l0;
 }
 
 /* rattle::export codex32_derive */
-static u32 f74(Machine *m, u32 l0, u64 l1, u64 l2, u64 l3, u64 l4, u64 l5, u64 l6, u64 l7) {
+static u32 f72(Machine *m, u32 l0, u64 l1, u64 l2, u64 l3, u64 l4, u64 l5, u64 l6, u64 l7) {
     u32 w0;
     u64 l8 = 0, t0, t1, t2;
     FRAME(m, 384u);
@@ -20275,14 +20381,14 @@ static u32 of_codex32_encode(Machine *m, u32 l0, u64 l1, u64 l2, u32 l3, u64 l4,
     TRAP(m);
     return 0;
     L0:;
-    w0 = f76(m, l0, l1, l2, l3, l4, l5, l6, l7, l8);
+    w0 = f74(m, l0, l1, l2, l3, l4, l5, l6, l7, l8);
     l3 = w0;
     LEAVE(m);
     return l3;
 }
 
 /* rattle::export codex32_encode */
-static u32 f76(Machine *m, u32 l0, u64 l1, u64 l2, u32 l3, u64 l4, u64 l5, u64 l6, u64 l7, u64 l8) {
+static u32 f74(Machine *m, u32 l0, u64 l1, u64 l2, u32 l3, u64 l4, u64 l5, u64 l6, u64 l7, u64 l8) {
     u32 l11 = 0, l12 = 0, w0, w1;
     u64 l9 = 0, l10 = 0, t0, t1, t2, t3, t4;
     FRAME(m, 400u);
@@ -20491,14 +20597,14 @@ static u32 of_codex32_encode_payload(Machine *m, u32 l0, u64 l1, u64 l2, u32 l3,
     TRAP(m);
     return 0;
     L0:;
-    w0 = f78(m, l0, l1, l2, l3, l4, l5, l6, l7, l8);
+    w0 = f76(m, l0, l1, l2, l3, l4, l5, l6, l7, l8);
     l3 = w0;
     LEAVE(m);
     return l3;
 }
 
 /* rattle::export codex32_encode_payload */
-static u32 f78(Machine *m, u32 l0, u64 l1, u64 l2, u32 l3, u64 l4, u64 l5, u64 l6, u64 l7, u64 l8) {
+static u32 f76(Machine *m, u32 l0, u64 l1, u64 l2, u32 l3, u64 l4, u64 l5, u64 l6, u64 l7, u64 l8) {
     u32 w0;
     u64 l9 = 0, t0, t1, t2, t3;
     FRAME(m, 400u);
@@ -20680,14 +20786,14 @@ static u32 of_codex32_message(Machine *m, u32 l0, u64 l1, u64 l2, u64 l3) {
     TRAP(m);
     return 0;
     L0:;
-    w0 = f80(m, l0, l1, l2, l3);
+    w0 = f78(m, l0, l1, l2, l3);
     l0 = w0;
     LEAVE(m);
     return l0;
 }
 
 /* rattle::export codex32_message */
-static u32 f80(Machine *m, u32 l0, u64 l1, u64 l2, u64 l3) {
+static u32 f78(Machine *m, u32 l0, u64 l1, u64 l2, u64 l3) {
     u32 w0;
     u64 l4 = 0, l5 = 0, l6 = 0, l7 = 0, l8 = 0, l9 = 0, t0, t1;
     l4 = 0ull;
@@ -20985,14 +21091,14 @@ static u32 of_codex32_parse(Machine *m, u64 l0, u64 l1, u64 l2, u64 l3, u64 l4) 
     TRAP(m);
     return 0;
     L0:;
-    w0 = f82(m, l0, l1, l2, l3, l4);
+    w0 = f80(m, l0, l1, l2, l3, l4);
     l5 = w0;
     LEAVE(m);
     return l5;
 }
 
 /* rattle::export codex32_parse */
-static u32 f82(Machine *m, u64 l0, u64 l1, u64 l2, u64 l3, u64 l4) {
+static u32 f80(Machine *m, u64 l0, u64 l1, u64 l2, u64 l3, u64 l4) {
     u32 l8 = 0, l9 = 0, l10 = 0, l11 = 0, w0, w1;
     u64 l5 = 0, l6 = 0, l7 = 0, t0, t1, t2;
     FRAME(m, 320u);
@@ -21249,14 +21355,14 @@ static u32 of_codex32_propose(Machine *m, u64 l0, u64 l1, u64 l2, u64 l3, u64 l4
     TRAP(m);
     return 0;
     L0:;
-    w0 = f84(m, l0, l1, l2, l3, l4, l5);
+    w0 = f82(m, l0, l1, l2, l3, l4, l5);
     l6 = w0;
     LEAVE(m);
     return l6;
 }
 
 /* rattle::export codex32_propose */
-static u32 f84(Machine *m, u64 l0, u64 l1, u64 l2, u64 l3, u64 l4, u64 l5) {
+static u32 f82(Machine *m, u64 l0, u64 l1, u64 l2, u64 l3, u64 l4, u64 l5) {
     u32 l7 = 0, w0;
     u64 l6 = 0, t0, t1, t2;
     FRAME(m, 160u);
@@ -21324,14 +21430,14 @@ static u32 of_codex32_propose_long(Machine *m, u64 l0, u64 l1, u64 l2, u64 l3, u
     TRAP(m);
     return 0;
     L0:;
-    w0 = f86(m, l0, l1, l2, l3, l4, l5);
+    w0 = f84(m, l0, l1, l2, l3, l4, l5);
     l6 = w0;
     LEAVE(m);
     return l6;
 }
 
 /* rattle::export codex32_propose_long */
-static u32 f86(Machine *m, u64 l0, u64 l1, u64 l2, u64 l3, u64 l4, u64 l5) {
+static u32 f84(Machine *m, u64 l0, u64 l1, u64 l2, u64 l3, u64 l4, u64 l5) {
     u32 l7 = 0, w0;
     u64 l6 = 0, t0, t1, t2;
     FRAME(m, 160u);
@@ -21399,14 +21505,14 @@ static u32 of_codex32_recover(Machine *m, u64 l0, u64 l1, u64 l2, u64 l3, u64 l4
     TRAP(m);
     return 0;
     L0:;
-    w0 = f88(m, l0, l1, l2, l3, l4, l5, l6);
+    w0 = f86(m, l0, l1, l2, l3, l4, l5, l6);
     l7 = w0;
     LEAVE(m);
     return l7;
 }
 
 /* rattle::export codex32_recover */
-static u32 f88(Machine *m, u64 l0, u64 l1, u64 l2, u64 l3, u64 l4, u64 l5, u64 l6) {
+static u32 f86(Machine *m, u64 l0, u64 l1, u64 l2, u64 l3, u64 l4, u64 l5, u64 l6) {
     u32 l9 = 0, l10 = 0, l11 = 0, l12 = 0, w0, w1;
     u64 l7 = 0, l8 = 0, t0, t1, t2;
     FRAME(m, 608u);
@@ -21651,14 +21757,14 @@ static u32 of_codex32_share(Machine *m, u64 l0, u64 l1, u64 l2, u64 l3, u64 l4, 
     TRAP(m);
     return 0;
     L0:;
-    w0 = f90(m, l0, l1, l2, l3, l4, l5, l6, l7);
+    w0 = f88(m, l0, l1, l2, l3, l4, l5, l6, l7);
     l8 = w0;
     LEAVE(m);
     return l8;
 }
 
 /* rattle::export codex32_share */
-static u32 f90(Machine *m, u64 l0, u64 l1, u64 l2, u64 l3, u64 l4, u64 l5, u64 l6, u64 l7) {
+static u32 f88(Machine *m, u64 l0, u64 l1, u64 l2, u64 l3, u64 l4, u64 l5, u64 l6, u64 l7) {
     u32 l9 = 0, l14 = 0, l15 = 0, l16 = 0, w0, w1;
     u64 l8 = 0, l10 = 0, l11 = 0, l12 = 0, l13 = 0, t0, t1, t2;
     FRAME(m, 320u);
@@ -21944,14 +22050,14 @@ static u32 of_codex32_split(Machine *m, u32 l0, u64 l1, u64 l2, u64 l3, u64 l4, 
     TRAP(m);
     return 0;
     L0:;
-    w0 = f92(m, l0, l1, l2, l3, l4, l5, l6, l7, l8, l9, l10);
+    w0 = f90(m, l0, l1, l2, l3, l4, l5, l6, l7, l8, l9, l10);
     l0 = w0;
     LEAVE(m);
     return l0;
 }
 
 /* rattle::export codex32_split */
-static u32 f92(Machine *m, u32 l0, u64 l1, u64 l2, u64 l3, u64 l4, u64 l5, u64 l6, u64 l7, u64 l8, u64 l9, u64 l10) {
+static u32 f90(Machine *m, u32 l0, u64 l1, u64 l2, u64 l3, u64 l4, u64 l5, u64 l6, u64 l7, u64 l8, u64 l9, u64 l10) {
     u32 l12 = 0, l13 = 0, l14 = 0, l15 = 0, l16 = 0, l17 = 0, l22 = 0, w0, w1;
     u64 l11 = 0, l18 = 0, l19 = 0, l20 = 0, l21 = 0, l23 = 0, l24 = 0, l25 = 0, t0, t1, t2, t3;
     FRAME(m, 832u);
@@ -22044,7 +22150,7 @@ static u32 f92(Machine *m, u32 l0, u64 l1, u64 l2, u64 l3, u64 l4, u64 l5, u64 l
     t0 = w0 ? 4096ull : 0ull;
     t0 = l5 + t0;
     l5 = t0;
-    w0 = f72(m, l5, l6);
+    w0 = f70(m, l5, l6);
     if (w0) goto L6;
     w0 = l4 < 45ull;
     t0 = w0 ? 22ull : 24ull;
@@ -22509,20 +22615,20 @@ static u32 of_codex32_version(Machine *m) {
     TRAP(m);
     return 0;
     L0:;
-    f94(m);
+    f92(m);
     LEAVE(m);
     return 100u;
 }
 
 /* rattle::export codex32_version */
-static void f94(Machine *m) {
+static void f92(Machine *m) {
     (void)m;
 
 }
 
 /*
- * The functions of codex32.h, called as those of bech32.h are (translator/bech32_calls.c), and refused with
- * CODEX32_NO_MEMORY in their place, a text, a payload or the texts of a set. A string is a secret: the library's stack is
+ * How the functions of codex32.h run those of the library, as translator/bech32_own.c says it for bech32.h; a text, a
+ * payload or the texts of a set are refused with CODEX32_NO_MEMORY there. A string is a secret: the library's stack is
  * filled with zeros before a call ends.
  */
 
@@ -22535,83 +22641,6 @@ OWN void wipe(volatile u8 *stack, size_t size) {
     }
 }
 
-uint32_t codex32_parse(const uint8_t *text, size_t text_length, uint32_t *threshold, uint32_t *share_index,
-                       size_t *payload_length) {
-    NUMBERS(3);
-    if (IS_TOO_LONG(text_length)) {
-        return CODEX32_NO_MEMORY;
-    }
-    MACHINE(codex32_parse);
-    u64 text_at = lend(&m, text, text_length), at = lend_room(&m, numbers, sizeof number_words);
-    uint32_t number = of_codex32_parse(&m, text_at, text_length, at, at + 8, at + 16);
-    if (number == CODEX32_OK) {
-        *threshold = get_32(numbers);
-        *share_index = get_32(numbers + 8);
-        *payload_length = (size_t)get_64(numbers + 16);
-    }
-    wipe(stack, sizeof stack);
-    return number;
-}
-
-uint32_t codex32_share(const uint8_t *text, size_t text_length, uint32_t *threshold,
-                       uint8_t identifier[CODEX32_IDENTIFIER_LENGTH], uint32_t *share_index, uint8_t *bytes,
-                       size_t bytes_room, size_t *bytes_length) {
-    NUMBERS(3);
-    if (IS_TOO_LONG(text_length)) {
-        return CODEX32_NO_MEMORY;
-    }
-    MACHINE(codex32_share);
-    u64 bytes_size = SOME(bytes_room), text_at = lend(&m, text, text_length);
-    u64 identifier_at = lend_room(&m, identifier, CODEX32_IDENTIFIER_LENGTH), bytes_at = lend_room(&m, bytes, bytes_size);
-    u64 at = lend_room(&m, numbers, sizeof number_words);
-    uint32_t number =
-        of_codex32_share(&m, text_at, text_length, at, identifier_at, at + 8, bytes_at, bytes_size, at + 16);
-    if (number == CODEX32_OK) {
-        *threshold = get_32(numbers);
-        *share_index = get_32(numbers + 8);
-        *bytes_length = (size_t)get_64(numbers + 16);
-    }
-    wipe(stack, sizeof stack);
-    return number;
-}
-
-uint32_t codex32_encode(uint32_t threshold, const uint8_t *identifier, size_t identifier_length, uint32_t share_index,
-                        const uint8_t *bytes, size_t bytes_length, uint8_t *text, size_t text_room,
-                        size_t *text_length) {
-    NUMBERS(1);
-    MACHINE(codex32_encode);
-    u64 identifier_size = SOME(identifier_length), bytes_size = SOME(bytes_length), text_size = SOME(text_room);
-    u64 identifier_at = lend(&m, identifier, identifier_size), bytes_at = lend(&m, bytes, bytes_size);
-    u64 text_at = lend_room(&m, text, text_size), at = lend_room(&m, numbers, sizeof number_words);
-    uint32_t number = of_codex32_encode(&m, threshold, identifier_at, identifier_size, share_index, bytes_at, bytes_size,
-                                        text_at, text_size, at);
-    if (number == CODEX32_OK) {
-        *text_length = (size_t)get_64(numbers);
-    }
-    wipe(stack, sizeof stack);
-    return number;
-}
-
-uint32_t codex32_encode_payload(uint32_t threshold, const uint8_t *identifier, size_t identifier_length,
-                                uint32_t share_index, const uint8_t *payload, size_t payload_length, uint8_t *text,
-                                size_t text_room, size_t *text_length) {
-    NUMBERS(1);
-    if (IS_TOO_LONG(payload_length)) {
-        return CODEX32_NO_MEMORY;
-    }
-    MACHINE(codex32_encode_payload);
-    u64 identifier_size = SOME(identifier_length), text_size = SOME(text_room);
-    u64 identifier_at = lend(&m, identifier, identifier_size), payload_at = lend(&m, payload, payload_length);
-    u64 text_at = lend_room(&m, text, text_size), at = lend_room(&m, numbers, sizeof number_words);
-    uint32_t number = of_codex32_encode_payload(&m, threshold, identifier_at, identifier_size, share_index, payload_at,
-                                                payload_length, text_at, text_size, at);
-    if (number == CODEX32_OK) {
-        *text_length = (size_t)get_64(numbers);
-    }
-    wipe(stack, sizeof stack);
-    return number;
-}
-
 /* The lengths of texts, in their order. Of more than there can be one more is handed over: the answer depends on that
  * alone. */
 OWN size_t put_lengths(u8 *given, const size_t *lengths, size_t count) {
@@ -22622,108 +22651,7 @@ OWN size_t put_lengths(u8 *given, const size_t *lengths, size_t count) {
     return most;
 }
 
-uint32_t codex32_derive(uint32_t share_index, const uint8_t *texts, size_t texts_length, const size_t *lengths,
-                        size_t count, uint8_t *text, size_t text_room, size_t *text_length) {
-    GIVEN(CODEX32_MAX_SHARES + 1u);
-    NUMBERS(1);
-    if (IS_TOO_LONG(texts_length)) {
-        return CODEX32_NO_MEMORY;
-    }
-    MACHINE(codex32_derive);
-    u64 given_count = put_lengths(given, lengths, count), text_size = SOME(text_room);
-    u64 texts_at = lend(&m, texts, texts_length), interpolate_if_consistent = lend(&m, given, 8 * given_count);
-    u64 text_at = lend_room(&m, text, text_size), at = lend_room(&m, numbers, sizeof number_words);
-    uint32_t number = of_codex32_derive(&m, share_index, texts_at, texts_length, interpolate_if_consistent, given_count, text_at, text_size, at);
-    if (number == CODEX32_OK) {
-        *text_length = (size_t)get_64(numbers);
-    }
-    wipe(stack, sizeof stack);
-    return number;
-}
-
-uint32_t codex32_split(uint32_t threshold, const uint8_t *identifier, size_t identifier_length, const uint8_t *secret,
-                       size_t secret_length, const uint8_t *random, size_t random_length, size_t count, uint8_t *texts,
-                       size_t texts_room, size_t *text_length) {
-    NUMBERS(1);
-    MACHINE(codex32_split);
-    u64 identifier_size = SOME(identifier_length), secret_size = SOME(secret_length), random_size = SOME(random_length);
-    u64 texts_size = SOME(texts_room), identifier_at = lend(&m, identifier, identifier_size);
-    u64 secret_at = lend(&m, secret, secret_size), random_at = lend(&m, random, random_size);
-    u64 texts_at = lend_room(&m, texts, texts_size), at = lend_room(&m, numbers, sizeof number_words);
-    uint32_t number = of_codex32_split(&m, threshold, identifier_at, identifier_size, secret_at, secret_size, random_at,
-                                       random_size, count, texts_at, texts_size, at);
-    if (number == CODEX32_OK) {
-        *text_length = (size_t)get_64(numbers);
-    }
-    wipe(stack, sizeof stack);
-    return number;
-}
-
-uint32_t codex32_recover(const uint8_t *texts, size_t texts_length, const size_t *lengths, size_t count, uint8_t *bytes,
-                         size_t bytes_room, size_t *bytes_length) {
-    GIVEN(CODEX32_MAX_SHARES + 1u);
-    NUMBERS(1);
-    if (IS_TOO_LONG(texts_length)) {
-        return CODEX32_NO_MEMORY;
-    }
-    MACHINE(codex32_recover);
-    u64 given_count = put_lengths(given, lengths, count), bytes_size = SOME(bytes_room);
-    u64 texts_at = lend(&m, texts, texts_length), interpolate_if_consistent = lend(&m, given, 8 * given_count);
-    u64 bytes_at = lend_room(&m, bytes, bytes_size), at = lend_room(&m, numbers, sizeof number_words);
-    uint32_t number =
-        of_codex32_recover(&m, texts_at, texts_length, interpolate_if_consistent, given_count, bytes_at, bytes_size, at);
-    if (number == CODEX32_OK) {
-        *bytes_length = (size_t)get_64(numbers);
-    }
-    wipe(stack, sizeof stack);
-    return number;
-}
-
-uint32_t codex32_propose(const uint8_t *text, size_t text_length, codex32_memory *memory, uint8_t *proposed,
-                         size_t proposed_room, size_t *proposed_length) {
-    NUMBERS(3);
-    if (IS_TOO_LONG(text_length)) {
-        return CODEX32_NO_MEMORY;
-    }
-    MACHINE(codex32_propose);
-    u64 proposed_size = SOME(proposed_room), memory_size = SOME(memory->size);
-    u64 text_at = lend(&m, text, text_length), proposed_at = lend_room(&m, proposed, proposed_size);
-    u64 at = lend_room(&m, numbers, sizeof number_words);
-    put_64(numbers + 8, lend_room(&m, memory->start, memory_size));
-    put_64(numbers + 16, memory_size);
-    uint32_t number = of_codex32_propose(&m, text_at, text_length, at + 8, proposed_at, proposed_size, at);
-    if (number == CODEX32_OK) {
-        *proposed_length = (size_t)get_64(numbers);
-    }
-    if (get_64(numbers + 16) == 0) {
-        memory->size = 0;
-    }
-    wipe(stack, sizeof stack);
-    return number;
-}
-
-uint32_t codex32_propose_long(const uint8_t *text, size_t text_length, codex32_memory *memory, uint8_t *proposed,
-                              size_t proposed_room, size_t *proposed_length) {
-    NUMBERS(3);
-    if (IS_TOO_LONG(text_length)) {
-        return CODEX32_NO_MEMORY;
-    }
-    MACHINE(codex32_propose_long);
-    u64 proposed_size = SOME(proposed_room), memory_size = SOME(memory->size);
-    u64 text_at = lend(&m, text, text_length), proposed_at = lend_room(&m, proposed, proposed_size);
-    u64 at = lend_room(&m, numbers, sizeof number_words);
-    put_64(numbers + 8, lend_room(&m, memory->start, memory_size));
-    put_64(numbers + 16, memory_size);
-    uint32_t number = of_codex32_propose_long(&m, text_at, text_length, at + 8, proposed_at, proposed_size, at);
-    if (number == CODEX32_OK) {
-        *proposed_length = (size_t)get_64(numbers);
-    }
-    if (get_64(numbers + 16) == 0) {
-        memory->size = 0;
-    }
-    wipe(stack, sizeof stack);
-    return number;
-}
+/* Made by tools/make (tools/make.d/machine_calls) from include/codex32.h; do not edit. */
 
 uint32_t codex32_message(uint32_t number, uint8_t *message, size_t message_room, size_t *message_length) {
     NUMBERS(1);
@@ -22739,5 +22667,195 @@ uint32_t codex32_message(uint32_t number, uint8_t *message, size_t message_room,
 
 uint32_t codex32_version(void) {
     MACHINE(codex32_version);
-    return of_codex32_version(&m);
+    uint32_t answer = of_codex32_version(&m);
+    return answer;
+}
+
+uint32_t codex32_parse(const uint8_t *text, size_t text_length, uint32_t *threshold, uint32_t *share_index,
+                       size_t *payload_length) {
+    NUMBERS(3);
+    if (IS_TOO_LONG(text_length)) {
+        return CODEX32_NO_MEMORY;
+    }
+    MACHINE(codex32_parse);
+    u64 text_at = lend(&m, text, text_length);
+    u64 at = lend_room(&m, numbers, sizeof number_words);
+    uint32_t answer = of_codex32_parse(&m, text_at, text_length, at, at + 8, at + 16);
+    if (answer == CODEX32_OK) {
+        *threshold = get_32(numbers);
+        *share_index = get_32(numbers + 8);
+        *payload_length = (size_t)get_64(numbers + 16);
+    }
+    wipe(stack, sizeof stack);
+    return answer;
+}
+
+uint32_t codex32_share(const uint8_t *text, size_t text_length, uint32_t *threshold,
+                       uint8_t identifier[CODEX32_IDENTIFIER_LENGTH], uint32_t *share_index, uint8_t *bytes,
+                       size_t bytes_room, size_t *bytes_length) {
+    NUMBERS(3);
+    if (IS_TOO_LONG(text_length)) {
+        return CODEX32_NO_MEMORY;
+    }
+    MACHINE(codex32_share);
+    u64 text_at = lend(&m, text, text_length);
+    u64 identifier_at = lend_room(&m, identifier, CODEX32_IDENTIFIER_LENGTH);
+    u64 bytes_size = SOME(bytes_room), bytes_at = lend_room(&m, bytes, bytes_size);
+    u64 at = lend_room(&m, numbers, sizeof number_words);
+    uint32_t answer = of_codex32_share(&m, text_at, text_length, at, identifier_at, at + 8, bytes_at, bytes_size,
+                                       at + 16);
+    if (answer == CODEX32_OK) {
+        *threshold = get_32(numbers);
+        *share_index = get_32(numbers + 8);
+        *bytes_length = (size_t)get_64(numbers + 16);
+    }
+    wipe(stack, sizeof stack);
+    return answer;
+}
+
+uint32_t codex32_encode(uint32_t threshold, const uint8_t *identifier, size_t identifier_length, uint32_t share_index,
+                        const uint8_t *bytes, size_t bytes_length, uint8_t *text, size_t text_room,
+                        size_t *text_length) {
+    NUMBERS(1);
+    MACHINE(codex32_encode);
+    u64 identifier_size = SOME(identifier_length), identifier_at = lend(&m, identifier, identifier_size);
+    u64 bytes_size = SOME(bytes_length), bytes_at = lend(&m, bytes, bytes_size);
+    u64 text_size = SOME(text_room), text_at = lend_room(&m, text, text_size);
+    u64 at = lend_room(&m, numbers, sizeof number_words);
+    uint32_t answer = of_codex32_encode(&m, threshold, identifier_at, identifier_size, share_index, bytes_at,
+                                        bytes_size, text_at, text_size, at);
+    if (answer == CODEX32_OK) {
+        *text_length = (size_t)get_64(numbers);
+    }
+    wipe(stack, sizeof stack);
+    return answer;
+}
+
+uint32_t codex32_encode_payload(uint32_t threshold, const uint8_t *identifier, size_t identifier_length,
+                                uint32_t share_index, const uint8_t *payload, size_t payload_length, uint8_t *text,
+                                size_t text_room, size_t *text_length) {
+    NUMBERS(1);
+    if (IS_TOO_LONG(payload_length)) {
+        return CODEX32_NO_MEMORY;
+    }
+    MACHINE(codex32_encode_payload);
+    u64 identifier_size = SOME(identifier_length), identifier_at = lend(&m, identifier, identifier_size);
+    u64 payload_at = lend(&m, payload, payload_length);
+    u64 text_size = SOME(text_room), text_at = lend_room(&m, text, text_size);
+    u64 at = lend_room(&m, numbers, sizeof number_words);
+    uint32_t answer = of_codex32_encode_payload(&m, threshold, identifier_at, identifier_size, share_index,
+                                                payload_at, payload_length, text_at, text_size, at);
+    if (answer == CODEX32_OK) {
+        *text_length = (size_t)get_64(numbers);
+    }
+    wipe(stack, sizeof stack);
+    return answer;
+}
+
+uint32_t codex32_derive(uint32_t share_index, const uint8_t *texts, size_t texts_length, const size_t *lengths,
+                        size_t count, uint8_t *text, size_t text_room, size_t *text_length) {
+    GIVEN(CODEX32_MAX_SHARES + 1u);
+    NUMBERS(1);
+    if (IS_TOO_LONG(texts_length)) {
+        return CODEX32_NO_MEMORY;
+    }
+    MACHINE(codex32_derive);
+    u64 given_count = put_lengths(given, lengths, count), given_at = lend(&m, given, 8 * given_count);
+    u64 texts_at = lend(&m, texts, texts_length);
+    u64 text_size = SOME(text_room), text_at = lend_room(&m, text, text_size);
+    u64 at = lend_room(&m, numbers, sizeof number_words);
+    uint32_t answer = of_codex32_derive(&m, share_index, texts_at, texts_length, given_at, given_count, text_at,
+                                        text_size, at);
+    if (answer == CODEX32_OK) {
+        *text_length = (size_t)get_64(numbers);
+    }
+    wipe(stack, sizeof stack);
+    return answer;
+}
+
+uint32_t codex32_split(uint32_t threshold, const uint8_t *identifier, size_t identifier_length, const uint8_t *secret,
+                       size_t secret_length, const uint8_t *random, size_t random_length, size_t count,
+                       uint8_t *texts, size_t texts_room, size_t *text_length) {
+    NUMBERS(1);
+    MACHINE(codex32_split);
+    u64 identifier_size = SOME(identifier_length), identifier_at = lend(&m, identifier, identifier_size);
+    u64 secret_size = SOME(secret_length), secret_at = lend(&m, secret, secret_size);
+    u64 random_size = SOME(random_length), random_at = lend(&m, random, random_size);
+    u64 texts_size = SOME(texts_room), texts_at = lend_room(&m, texts, texts_size);
+    u64 at = lend_room(&m, numbers, sizeof number_words);
+    uint32_t answer = of_codex32_split(&m, threshold, identifier_at, identifier_size, secret_at, secret_size,
+                                       random_at, random_size, count, texts_at, texts_size, at);
+    if (answer == CODEX32_OK) {
+        *text_length = (size_t)get_64(numbers);
+    }
+    wipe(stack, sizeof stack);
+    return answer;
+}
+
+uint32_t codex32_recover(const uint8_t *texts, size_t texts_length, const size_t *lengths, size_t count,
+                         uint8_t *bytes, size_t bytes_room, size_t *bytes_length) {
+    GIVEN(CODEX32_MAX_SHARES + 1u);
+    NUMBERS(1);
+    if (IS_TOO_LONG(texts_length)) {
+        return CODEX32_NO_MEMORY;
+    }
+    MACHINE(codex32_recover);
+    u64 given_count = put_lengths(given, lengths, count), given_at = lend(&m, given, 8 * given_count);
+    u64 texts_at = lend(&m, texts, texts_length);
+    u64 bytes_size = SOME(bytes_room), bytes_at = lend_room(&m, bytes, bytes_size);
+    u64 at = lend_room(&m, numbers, sizeof number_words);
+    uint32_t answer = of_codex32_recover(&m, texts_at, texts_length, given_at, given_count, bytes_at, bytes_size, at);
+    if (answer == CODEX32_OK) {
+        *bytes_length = (size_t)get_64(numbers);
+    }
+    wipe(stack, sizeof stack);
+    return answer;
+}
+
+uint32_t codex32_propose(const uint8_t *text, size_t text_length, codex32_memory *memory, uint8_t *proposed,
+                         size_t proposed_room, size_t *proposed_length) {
+    NUMBERS(3);
+    if (IS_TOO_LONG(text_length)) {
+        return CODEX32_NO_MEMORY;
+    }
+    MACHINE(codex32_propose);
+    u64 text_at = lend(&m, text, text_length);
+    u64 proposed_size = SOME(proposed_room), proposed_at = lend_room(&m, proposed, proposed_size);
+    u64 memory_size = SOME(memory->size), memory_at = lend_room(&m, memory->start, memory_size);
+    u64 at = lend_room(&m, numbers, sizeof number_words);
+    put_64(numbers + 8, memory_at);
+    put_64(numbers + 16, memory_size);
+    uint32_t answer = of_codex32_propose(&m, text_at, text_length, at + 8, proposed_at, proposed_size, at);
+    if (answer == CODEX32_OK) {
+        *proposed_length = (size_t)get_64(numbers);
+    }
+    if (get_64(numbers + 16) == 0) {
+        memory->size = 0;
+    }
+    wipe(stack, sizeof stack);
+    return answer;
+}
+
+uint32_t codex32_propose_long(const uint8_t *text, size_t text_length, codex32_memory *memory, uint8_t *proposed,
+                              size_t proposed_room, size_t *proposed_length) {
+    NUMBERS(3);
+    if (IS_TOO_LONG(text_length)) {
+        return CODEX32_NO_MEMORY;
+    }
+    MACHINE(codex32_propose_long);
+    u64 text_at = lend(&m, text, text_length);
+    u64 proposed_size = SOME(proposed_room), proposed_at = lend_room(&m, proposed, proposed_size);
+    u64 memory_size = SOME(memory->size), memory_at = lend_room(&m, memory->start, memory_size);
+    u64 at = lend_room(&m, numbers, sizeof number_words);
+    put_64(numbers + 8, memory_at);
+    put_64(numbers + 16, memory_size);
+    uint32_t answer = of_codex32_propose_long(&m, text_at, text_length, at + 8, proposed_at, proposed_size, at);
+    if (answer == CODEX32_OK) {
+        *proposed_length = (size_t)get_64(numbers);
+    }
+    if (get_64(numbers + 16) == 0) {
+        memory->size = 0;
+    }
+    wipe(stack, sizeof stack);
+    return answer;
 }

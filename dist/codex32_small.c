@@ -4153,8 +4153,8 @@ static void f38(Machine *m) {
 }
 
 /*
- * The functions of codex32.h, called as those of bech32.h are (translator/bech32_calls.c), and refused with
- * CODEX32_NO_MEMORY in their place, a text, a payload or the texts of a set. A string is a secret: the library's stack is
+ * How the functions of codex32.h run those of the library, as translator/bech32_own.c says it for bech32.h; a text, a
+ * payload or the texts of a set are refused with CODEX32_NO_MEMORY there. A string is a secret: the library's stack is
  * filled with zeros before a call ends.
  */
 
@@ -4167,65 +4167,6 @@ OWN void wipe(volatile u8 *stack, size_t size) {
     }
 }
 
-uint32_t codex32_share(const uint8_t *text, size_t text_length, uint32_t *threshold,
-                       uint8_t identifier[CODEX32_IDENTIFIER_LENGTH], uint32_t *share_index, uint8_t *bytes,
-                       size_t bytes_room, size_t *bytes_length) {
-    NUMBERS(3);
-    if (IS_TOO_LONG(text_length)) {
-        return CODEX32_NO_MEMORY;
-    }
-    MACHINE(codex32_share);
-    u64 bytes_size = SOME(bytes_room), text_at = lend(&m, text, text_length);
-    u64 identifier_at = lend_room(&m, identifier, CODEX32_IDENTIFIER_LENGTH), bytes_at = lend_room(&m, bytes, bytes_size);
-    u64 at = lend_room(&m, numbers, sizeof number_words);
-    uint32_t number =
-        of_codex32_share(&m, text_at, text_length, at, identifier_at, at + 8, bytes_at, bytes_size, at + 16);
-    if (number == CODEX32_OK) {
-        *threshold = get_32(numbers);
-        *share_index = get_32(numbers + 8);
-        *bytes_length = (size_t)get_64(numbers + 16);
-    }
-    wipe(stack, sizeof stack);
-    return number;
-}
-
-uint32_t codex32_encode(uint32_t threshold, const uint8_t *identifier, size_t identifier_length, uint32_t share_index,
-                        const uint8_t *bytes, size_t bytes_length, uint8_t *text, size_t text_room,
-                        size_t *text_length) {
-    NUMBERS(1);
-    MACHINE(codex32_encode);
-    u64 identifier_size = SOME(identifier_length), bytes_size = SOME(bytes_length), text_size = SOME(text_room);
-    u64 identifier_at = lend(&m, identifier, identifier_size), bytes_at = lend(&m, bytes, bytes_size);
-    u64 text_at = lend_room(&m, text, text_size), at = lend_room(&m, numbers, sizeof number_words);
-    uint32_t number = of_codex32_encode(&m, threshold, identifier_at, identifier_size, share_index, bytes_at, bytes_size,
-                                        text_at, text_size, at);
-    if (number == CODEX32_OK) {
-        *text_length = (size_t)get_64(numbers);
-    }
-    wipe(stack, sizeof stack);
-    return number;
-}
-
-uint32_t codex32_encode_payload(uint32_t threshold, const uint8_t *identifier, size_t identifier_length,
-                                uint32_t share_index, const uint8_t *payload, size_t payload_length, uint8_t *text,
-                                size_t text_room, size_t *text_length) {
-    NUMBERS(1);
-    if (IS_TOO_LONG(payload_length)) {
-        return CODEX32_NO_MEMORY;
-    }
-    MACHINE(codex32_encode_payload);
-    u64 identifier_size = SOME(identifier_length), text_size = SOME(text_room);
-    u64 identifier_at = lend(&m, identifier, identifier_size), payload_at = lend(&m, payload, payload_length);
-    u64 text_at = lend_room(&m, text, text_size), at = lend_room(&m, numbers, sizeof number_words);
-    uint32_t number = of_codex32_encode_payload(&m, threshold, identifier_at, identifier_size, share_index, payload_at,
-                                                payload_length, text_at, text_size, at);
-    if (number == CODEX32_OK) {
-        *text_length = (size_t)get_64(numbers);
-    }
-    wipe(stack, sizeof stack);
-    return number;
-}
-
 /* The lengths of texts, in their order. Of more than there can be one more is handed over: the answer depends on that
  * alone. */
 OWN size_t put_lengths(u8 *given, const size_t *lengths, size_t count) {
@@ -4236,24 +4177,7 @@ OWN size_t put_lengths(u8 *given, const size_t *lengths, size_t count) {
     return most;
 }
 
-uint32_t codex32_derive(uint32_t share_index, const uint8_t *texts, size_t texts_length, const size_t *lengths,
-                        size_t count, uint8_t *text, size_t text_room, size_t *text_length) {
-    GIVEN(CODEX32_MAX_SHARES + 1u);
-    NUMBERS(1);
-    if (IS_TOO_LONG(texts_length)) {
-        return CODEX32_NO_MEMORY;
-    }
-    MACHINE(codex32_derive);
-    u64 given_count = put_lengths(given, lengths, count), text_size = SOME(text_room);
-    u64 texts_at = lend(&m, texts, texts_length), interpolate_if_consistent = lend(&m, given, 8 * given_count);
-    u64 text_at = lend_room(&m, text, text_size), at = lend_room(&m, numbers, sizeof number_words);
-    uint32_t number = of_codex32_derive(&m, share_index, texts_at, texts_length, interpolate_if_consistent, given_count, text_at, text_size, at);
-    if (number == CODEX32_OK) {
-        *text_length = (size_t)get_64(numbers);
-    }
-    wipe(stack, sizeof stack);
-    return number;
-}
+/* Made by tools/make (tools/make.d/machine_calls) from include/codex32.h; do not edit. */
 
 uint32_t codex32_message(uint32_t number, uint8_t *message, size_t message_room, size_t *message_length) {
     NUMBERS(1);
@@ -4269,5 +4193,90 @@ uint32_t codex32_message(uint32_t number, uint8_t *message, size_t message_room,
 
 uint32_t codex32_version(void) {
     MACHINE(codex32_version);
-    return of_codex32_version(&m);
+    uint32_t answer = of_codex32_version(&m);
+    return answer;
 }
+
+uint32_t codex32_share(const uint8_t *text, size_t text_length, uint32_t *threshold,
+                       uint8_t identifier[CODEX32_IDENTIFIER_LENGTH], uint32_t *share_index, uint8_t *bytes,
+                       size_t bytes_room, size_t *bytes_length) {
+    NUMBERS(3);
+    if (IS_TOO_LONG(text_length)) {
+        return CODEX32_NO_MEMORY;
+    }
+    MACHINE(codex32_share);
+    u64 text_at = lend(&m, text, text_length);
+    u64 identifier_at = lend_room(&m, identifier, CODEX32_IDENTIFIER_LENGTH);
+    u64 bytes_size = SOME(bytes_room), bytes_at = lend_room(&m, bytes, bytes_size);
+    u64 at = lend_room(&m, numbers, sizeof number_words);
+    uint32_t answer = of_codex32_share(&m, text_at, text_length, at, identifier_at, at + 8, bytes_at, bytes_size,
+                                       at + 16);
+    if (answer == CODEX32_OK) {
+        *threshold = get_32(numbers);
+        *share_index = get_32(numbers + 8);
+        *bytes_length = (size_t)get_64(numbers + 16);
+    }
+    wipe(stack, sizeof stack);
+    return answer;
+}
+
+uint32_t codex32_encode(uint32_t threshold, const uint8_t *identifier, size_t identifier_length, uint32_t share_index,
+                        const uint8_t *bytes, size_t bytes_length, uint8_t *text, size_t text_room,
+                        size_t *text_length) {
+    NUMBERS(1);
+    MACHINE(codex32_encode);
+    u64 identifier_size = SOME(identifier_length), identifier_at = lend(&m, identifier, identifier_size);
+    u64 bytes_size = SOME(bytes_length), bytes_at = lend(&m, bytes, bytes_size);
+    u64 text_size = SOME(text_room), text_at = lend_room(&m, text, text_size);
+    u64 at = lend_room(&m, numbers, sizeof number_words);
+    uint32_t answer = of_codex32_encode(&m, threshold, identifier_at, identifier_size, share_index, bytes_at,
+                                        bytes_size, text_at, text_size, at);
+    if (answer == CODEX32_OK) {
+        *text_length = (size_t)get_64(numbers);
+    }
+    wipe(stack, sizeof stack);
+    return answer;
+}
+
+uint32_t codex32_encode_payload(uint32_t threshold, const uint8_t *identifier, size_t identifier_length,
+                                uint32_t share_index, const uint8_t *payload, size_t payload_length, uint8_t *text,
+                                size_t text_room, size_t *text_length) {
+    NUMBERS(1);
+    if (IS_TOO_LONG(payload_length)) {
+        return CODEX32_NO_MEMORY;
+    }
+    MACHINE(codex32_encode_payload);
+    u64 identifier_size = SOME(identifier_length), identifier_at = lend(&m, identifier, identifier_size);
+    u64 payload_at = lend(&m, payload, payload_length);
+    u64 text_size = SOME(text_room), text_at = lend_room(&m, text, text_size);
+    u64 at = lend_room(&m, numbers, sizeof number_words);
+    uint32_t answer = of_codex32_encode_payload(&m, threshold, identifier_at, identifier_size, share_index,
+                                                payload_at, payload_length, text_at, text_size, at);
+    if (answer == CODEX32_OK) {
+        *text_length = (size_t)get_64(numbers);
+    }
+    wipe(stack, sizeof stack);
+    return answer;
+}
+
+uint32_t codex32_derive(uint32_t share_index, const uint8_t *texts, size_t texts_length, const size_t *lengths,
+                        size_t count, uint8_t *text, size_t text_room, size_t *text_length) {
+    GIVEN(CODEX32_MAX_SHARES + 1u);
+    NUMBERS(1);
+    if (IS_TOO_LONG(texts_length)) {
+        return CODEX32_NO_MEMORY;
+    }
+    MACHINE(codex32_derive);
+    u64 given_count = put_lengths(given, lengths, count), given_at = lend(&m, given, 8 * given_count);
+    u64 texts_at = lend(&m, texts, texts_length);
+    u64 text_size = SOME(text_room), text_at = lend_room(&m, text, text_size);
+    u64 at = lend_room(&m, numbers, sizeof number_words);
+    uint32_t answer = of_codex32_derive(&m, share_index, texts_at, texts_length, given_at, given_count, text_at,
+                                        text_size, at);
+    if (answer == CODEX32_OK) {
+        *text_length = (size_t)get_64(numbers);
+    }
+    wipe(stack, sizeof stack);
+    return answer;
+}
+
