@@ -206,19 +206,19 @@ impl<'s> CheckedHrpstring<'s> {
         AsciiToFe32Iter::new(self.ascii)
     }
 
-    /// Its bytes. Bits behind the last whole byte are dropped.
+    /// Its bytes. Bits after the last whole byte are dropped.
     pub fn byte_iter(&self) -> ByteIter<'s> {
         ByteIter::new(self.ascii)
     }
 
-    /// Tests that it is a segwit address, and takes the witness version off. Which checksum accepted
-    /// the text is not asked.
+    /// Tests that the string is a segwit address, and removes the witness version. Any checksum may
+    /// have accepted the string.
     ///
     /// # Errors
     ///
     /// The first of: no data part; more than [`MAX_STRING_LENGTH`] characters; a witness version
-    /// above 16; what is wrong with the bits behind the program's bytes; what is wrong with the
-    /// length of the program.
+    /// above 16; the error of [`Self::validate_segwit_padding`]; the error of
+    /// [`Self::validate_witness_program_length`].
     pub fn validate_segwit(mut self) -> Result<SegwitHrpstring<'s>, SegwitHrpstringError> {
         let first = self
             .fe32_iter()
