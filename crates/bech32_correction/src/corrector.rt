@@ -197,8 +197,12 @@ impl<Ck: Checksum, A: Allocator + Copy> Corrector<Ck, A> {
         listing_given::<Ck, A>(alloc, end, residue, question.erasures, PhantomData)
     }
 
-    // The errors with the corrector's own erasures, whose locators it keeps.
-    fn own_listing(&self) -> Result<Option<ShortVec<(usize, Fe32), A>>, AllocError>
+    /// The errors as [`bch_errors`](Self::bch_errors) lists them, in a vector.
+    ///
+    /// # Errors
+    ///
+    /// Those of [`bch_errors`](Self::bch_errors).
+    pub fn own_listing(&self) -> Result<Option<ShortVec<(usize, Fe32), A>>, AllocError>
         ensures answer { IfOk result (λ answer. IsAnswerTo Ck.code Ck.bound self.now answer) }
         ensures in_place { length Ck.code.generator ≤ 6 → IsOk result }
     {

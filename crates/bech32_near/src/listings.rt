@@ -7,7 +7,7 @@ ghost use Rattle.bech32_near.specs.search.Nearest.{AreNearest};
 ghost use Rattle.bech32_gf.specs.Fe32 as fe32;
 ghost use Rattle.bech32_gf.specs.declared.gf32.Fe32.{Fe32 as Element};
 
-use crate::search::{Listings, gathered, own_listing};
+use crate::search::{Listings, gathered};
 use bech32_bch::ShortVec;
 use bech32_checksum::Checksum;
 use bech32_correction::Corrector;
@@ -37,7 +37,7 @@ fn listing_of<Ck: Checksum, A: Allocator + Copy>(
     ensures in_place { length Ck.code.generator ≤ 6 → IsOk result }
 {
     let erased = corrector.erasures().len();
-    let Some(listing) = own_listing(corrector)? else {
+    let Some(listing) = corrector.own_listing()? else {
         return Ok(None);
     };
     if listing.len().saturating_sub(erased) > errors {

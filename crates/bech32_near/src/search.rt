@@ -6,5 +6,4 @@ mod sketch;
 mod table;
 mod terms;
 
-pub(crate) use self::gathering::own_listing;
 pub use self::gathering::{Listings, gathered};

@@ -174,20 +174,6 @@ fn push_raised<A: Allocator + Copy>(
     Ok(())
 }
 
-/// The corrector's listing with its own erasures.
-pub(crate) fn own_listing<Ck: Checksum, A: Allocator + Copy>(
-    corrector: &Corrector<Ck, A>,
-) -> Result<Option<ShortVec<(usize, Fe32), A>>, AllocError>
-    ensures answer { IfOk result (λ answer. IsAnswerTo Ck.code Ck.bound corrector.now answer) }
-    ensures in_place { length Ck.code.generator ≤ 6 → IsOk result }
-{
-    let erasures = corrector.erasures();
-    corrector.listing(Question {
-        erasures,
-        highest: None,
-    })
-}
-
 // Puts the one listing with so few errors that the corrector tells it behind those that were found,
 // where all of its errors are below the limit.
 fn add_answer<Ck: Checksum, A: Allocator + Copy>(
@@ -201,7 +187,7 @@ fn add_answer<Ck: Checksum, A: Allocator + Copy>(
         found.old.items found.new.items) }
 {
     let erased = corrector.erasures().len();
-    let Some(listing) = own_listing(corrector)? else {
+    let Some(listing) = corrector.own_listing()? else {
         return Ok(());
     };
     let (_, listed) = listing.as_slice().split_at(erased);
