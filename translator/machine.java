@@ -47,19 +47,19 @@ final class Machine {
     // Numbers in memory, or else among the constants.
 
     private static int load8(byte[] m, long a) {
-        return a >>> 32 == 0 ? m[(int) a] & 255 : CONSTANTS[(int) (a - FIRST)] & 255;
+        return a >>> 32 == 0 ? m[(int) a] & 255 : CONSTANTS[index(a - FIRST)] & 255;
     }
 
     private static int load16(byte[] m, long a) {
-        return (a >>> 32 == 0 ? (short) SHORT.get(m, (int) a) : (short) SHORT.get(CONSTANTS, (int) (a - FIRST))) & 65535;
+        return (a >>> 32 == 0 ? (short) SHORT.get(m, (int) a) : (short) SHORT.get(CONSTANTS, index(a - FIRST))) & 65535;
     }
 
     private static int load32(byte[] m, long a) {
-        return a >>> 32 == 0 ? (int) INT.get(m, (int) a) : (int) INT.get(CONSTANTS, (int) (a - FIRST));
+        return a >>> 32 == 0 ? (int) INT.get(m, (int) a) : (int) INT.get(CONSTANTS, index(a - FIRST));
     }
 
     private static long load64(byte[] m, long a) {
-        return a >>> 32 == 0 ? (long) LONG.get(m, (int) a) : (long) LONG.get(CONSTANTS, (int) (a - FIRST));
+        return a >>> 32 == 0 ? (long) LONG.get(m, (int) a) : (long) LONG.get(CONSTANTS, index(a - FIRST));
     }
 
     // Numbers at an address that is made of one among the constants.
@@ -80,7 +80,7 @@ final class Machine {
         return load64(m, a);
     }
 
-    /** The index of an address that is written to: never that of a constant. */
+    /** An address as an index: one that is too large is none. */
     private static int index(long a) {
         return a >>> 31 == 0 ? (int) a : -1;
     }

@@ -20,6 +20,19 @@ CONVERSIONS = {"wrap_i64", "extend_i32_u", "extend_i32_s"}
 NAMED = re.compile(r"[twb]\d+")
 
 
+# What is worked out here where all numbers are known: a language may refuse a constant that is too large.
+FOLDED = {"add": lambda a, b: a + b, "sub": lambda a, b: a - b, "mul": lambda a, b: a * b, "and": lambda a, b: a & b,
+          "or": lambda a, b: a | b, "xor": lambda a, b: a ^ b, "shl": lambda a, b: a << b, "wrap_i64": lambda a: a,
+          "extend_i32_u": lambda a: a, **{f"extend{it}_s": lambda a, it=it: with_sign(a, it) for it in (8, 16, 32)},
+          "extend_i32_s": lambda a: with_sign(a, 32)}
+
+
+def with_sign(number, bits):
+    """The low bits of a number, read with a sign."""
+    number &= (1 << bits) - 1
+    return number - (1 << bits) if number >> (bits - 1) else number
+
+
 class Value:
     """A value on the stack: its expression, and what has to be known of it."""
 
@@ -293,7 +306,9 @@ class Writer:
     def of_one(self, kind, what):
         of = self.pop()
         text = self.language.typed(of)
-        if what == "eqz":
+        if what in FOLDED and of.number is not None:
+            self.push(self.numbered(FOLDED[what](of.number), kind))
+        elif what == "eqz":
             condition = self.language.no(of.condition) if of.condition else self.language.compare("eq", text, "0", kind)
             self.push(Value(self.language.of_condition(condition), I32, (of,), condition=condition))
         elif what in CONVERSIONS:
@@ -305,7 +320,10 @@ class Writer:
     def of_two(self, kind, what):
         second, first = self.pop(), self.pop()
         text = self.language.typed(first)
-        if what in COMPARE or what in COMPARE_SIGNED:
+        if what in FOLDED and None not in (first.number, second.number) and not first.points and not second.points:
+            by = second.number % BITS[kind] if what == "shl" else second.number
+            self.push(self.numbered(FOLDED[what](first.number, by), kind))
+        elif what in COMPARE or what in COMPARE_SIGNED:
             other = self.language.typed(second) if what in COMPARE_SIGNED else second.text
             condition = self.language.compare(what, text, other, kind)
             self.push(Value(self.language.of_condition(condition), I32, (first, second), condition=condition))
