@@ -19,7 +19,6 @@ func Codex32Message(number uint32, message []byte, messageLength *uint64) uint32
 	if answer == 0 {
 		copy(message[:*messageLength], m[messageAt:])
 	}
-	wipe(m)
 	return answer
 }
 
@@ -33,7 +32,6 @@ func Codex32Version() uint32 {
 		}
 	}
 	answer := of_codex32_version(m, stackCodex32Version)
-	wipe(m)
 	return answer
 }
 

@@ -17,7 +17,6 @@
         if (answer == 0) {
             take(m, messageAt, message, (int) messageLength[0]);
         }
-        java.util.Arrays.fill(m, (byte) 0);
         return answer;
     }
 
@@ -28,7 +27,6 @@
         }
         byte[] m = new byte[(int) need];
         int answer = of_codex32_version(m, STACK_CODEX32_VERSION);
-        java.util.Arrays.fill(m, (byte) 0);
         return answer;
     }
 

@@ -5,7 +5,7 @@ pub fn codex32_message(number: u32, message: &mut [u8], message_length: &mut usi
     let mut layout = Layout(STACK_CODEX32_MESSAGE as u64);
     let message_at = layout.put(message.len());
     let message_length_at = layout.put(8);
-    with::<{ STACK_CODEX32_MESSAGE + 512 }, { STACK_CODEX32_MESSAGE + 8192 }, true>(layout.0, &mut |m: &mut [u8]| {
+    with::<{ STACK_CODEX32_MESSAGE + 512 }, { STACK_CODEX32_MESSAGE + 8192 }, false>(layout.0, &mut |m: &mut [u8]| {
         let answer = of_codex32_message(m, STACK_CODEX32_MESSAGE as u64, number, message_at, message.len() as u64, message_length_at);
         if answer == 0 {
             *message_length = index(load_64(m, message_length_at));
@@ -19,7 +19,7 @@ pub fn codex32_message(number: u32, message: &mut [u8], message_length: &mut usi
 
 pub fn codex32_version() -> u32 {
     let layout = Layout(STACK_CODEX32_VERSION as u64);
-    with::<{ STACK_CODEX32_VERSION + 512 }, { STACK_CODEX32_VERSION + 8192 }, true>(layout.0, &mut |m: &mut [u8]| {
+    with::<{ STACK_CODEX32_VERSION + 512 }, { STACK_CODEX32_VERSION + 8192 }, false>(layout.0, &mut |m: &mut [u8]| {
         let answer = of_codex32_version(m, STACK_CODEX32_VERSION as u64);
         answer
     })

@@ -178,9 +178,13 @@ fn on_heap<const SECRET: bool>(need: usize, call: &mut dyn FnMut(&mut [u8]) -> u
     number
 }
 
+/// Where there is no heap, 32 KB of the stack are the most that a call has.
 #[cfg(not(feature = "alloc"))]
-fn on_heap<const SECRET: bool>(_: usize, _: &mut dyn FnMut(&mut [u8]) -> u32) -> u32 {
-    NO_MEMORY
+fn on_heap<const SECRET: bool>(need: usize, call: &mut dyn FnMut(&mut [u8]) -> u32) -> u32 {
+    if need > 32768 {
+        return NO_MEMORY;
+    }
+    in_place::<32768, SECRET>(need, call)
 }
 
 /// Zeros, which a compiler does not leave out, since it is told that they are read.

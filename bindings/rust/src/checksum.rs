@@ -2,8 +2,8 @@
 
 use crate::declared::{BECH32_MAX_LONG_TEXT, BECH32_MAX_TEXT};
 use crate::{raw, Fe32, Hrp};
-use std::fmt::Debug;
-use std::ops::BitXor;
+use core::fmt::Debug;
+use core::ops::BitXor;
 
 /// A checksum: [`Bech32`] or [`Bech32m`], the same for long texts, or [`NoChecksum`]. No other type can be one.
 pub trait Checksum: sealed::Known {
@@ -382,4 +382,4 @@ impl Iterator for HrpFe32Iter<'_> {
 
 impl ExactSizeIterator for HrpFe32Iter<'_> {}
 
-impl std::iter::FusedIterator for HrpFe32Iter<'_> {}
+impl core::iter::FusedIterator for HrpFe32Iter<'_> {}

@@ -65,7 +65,8 @@ pub use share::Share;
 pub use split::{random_length, recover, split, split_with, SplitError, MAX_SPLIT};
 
 use crate::declared;
-use crate::raw::{self, Block};
+use crate::prelude::*;
+use crate::raw;
 use crate::Fe32;
 
 /// The characters that a string has at most.
@@ -244,12 +245,10 @@ pub fn propose_long(s: &str) -> Result<Option<SecretText>, Refusal> {
 }
 
 // Puts the proposal for a text into a buffer.
-type Propose = fn(&[u8], &mut [Block], &mut [u8]) -> Result<usize, Refusal>;
+type Propose = fn(&[u8], usize, &mut [u8]) -> Result<usize, Refusal>;
 
 fn proposed_by(propose: Propose, s: &str) -> Result<Option<SecretText>, Refusal> {
-    let mut memory = vec![Block::ZEROS; MEMORY.div_ceil(Block::SIZE)];
-    let proposed = written(|text| propose(s.as_bytes(), &mut memory, text));
-    raw::wipe(&mut memory, Block::ZEROS);
+    let proposed = written(|text| propose(s.as_bytes(), MEMORY, text));
     match proposed {
         Err(Refusal::NoNearest) => Ok(None),
         other => other.map(|proposed| Some(proposed.in_case_of(s))),

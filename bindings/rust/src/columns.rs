@@ -25,9 +25,10 @@
 //! [`Refusal::NullRow`]; of [`Refusal::BadNumber`], where its offsets do not lie in the column, or its bit not in
 //! the validity; what the call for one text refuses with; that of [`Refusal::OtherHrp`].
 
+use crate::prelude::*;
 use crate::segwit::MAX_PROGRAM_LENGTH;
 use crate::{raw, rules, Checksum, Hrp, Refusal};
-use std::ops::Range;
+use core::ops::Range;
 
 // Rows of which the results are worked out at once.
 const ROWS: usize = 1 << 16;
@@ -246,7 +247,7 @@ impl Rows {
     /// The same as texts.
     pub fn texts(&self) -> impl ExactSizeIterator<Item = Option<&str>> + '_ {
         self.iter()
-            .map(|row| row.and_then(|it| std::str::from_utf8(it).ok()))
+            .map(|row| row.and_then(|it| core::str::from_utf8(it).ok()))
     }
 
     /// These rows as a column.
@@ -353,7 +354,7 @@ pub fn check_either(texts: Column<'_>) -> Vec<u8> {
 
 // The number of a row by a checksum that the library does not know.
 fn number_by<Ck: Checksum>(row: Result<&[u8], Refusal>) -> u8 {
-    let text = row.and_then(|it| std::str::from_utf8(it).map_err(|_| Refusal::NotUtf8));
+    let text = row.and_then(|it| core::str::from_utf8(it).map_err(|_| Refusal::NotUtf8));
     let found = text.and_then(|it| {
         let checked = crate::primitives::decode::CheckedHrpstring::new::<Ck>(it);
         checked.map(|_| ()).map_err(Refusal::from)

@@ -3,11 +3,12 @@
 use crate::checksum::CorrectingChecksum;
 use crate::declared::BECH32_MAX_LISTED;
 use crate::lent::{Lent, MOST_MEMORY};
-use crate::raw::{self, Block};
+use crate::prelude::*;
+use crate::raw;
 use crate::text::{ascii, in_case_of, is_in_upper_case, MAX_TEXT_LENGTH};
 use crate::{Fe32, Refusal};
-use std::fmt;
-use std::iter::once;
+use core::fmt;
+use core::iter::once;
 
 // The locations that a correction has at most.
 const MAX_LISTED: usize = BECH32_MAX_LISTED;
@@ -214,7 +215,7 @@ pub fn nearest<Ck: CorrectingChecksum>(
 pub(crate) fn nearest_by(
     s: &str,
     erasures: &[usize],
-    call: impl FnMut(&mut [Block], &mut [u8]) -> Result<usize, Refusal>,
+    call: impl FnMut(usize, &mut [u8]) -> Result<usize, Refusal>,
 ) -> Result<Vec<Correction>, Refusal> {
     nearest_from(LEAST_ROOM, s, erasures, call)
 }
@@ -224,7 +225,7 @@ fn nearest_from(
     least: usize,
     s: &str,
     erasures: &[usize],
-    mut call: impl FnMut(&mut [Block], &mut [u8]) -> Result<usize, Refusal>,
+    mut call: impl FnMut(usize, &mut [u8]) -> Result<usize, Refusal>,
 ) -> Result<Vec<Correction>, Refusal> {
     let mut lent = Lent::for_text(s.len());
     // Puts as many as there is room for, and returns the number of all.
@@ -275,11 +276,10 @@ mod tests {
 
     #[test]
     fn counts_the_texts_that_it_has_no_room_for() {
-        let mut lent = vec![Block::ZEROS; 1 << 12];
         let (text, length) = (MISTYPED.as_bytes(), MISTYPED.len());
         for room in [0, length - 1, length, length + 1] {
             let mut texts = vec![0; room];
-            let count = raw::nearest(1, text, &[], 2, &mut lent, &mut texts);
+            let count = raw::nearest(1, text, &[], 2, 1 << 16, &mut texts);
             assert_eq!(count, Ok(1));
             assert_eq!(texts.iter().all(|byte| *byte == 0), room < length);
         }

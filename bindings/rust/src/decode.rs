@@ -1,6 +1,7 @@
 //! Texts read: their characters tested, their checksum, and the rules of segwit addresses.
 
 use crate::checksum::{residue_of, Code, HrpFe32Iter, BECH32, BECH32M};
+use crate::declared::BECH32_MAX_LONG_TEXT;
 use crate::error::{
     CharError, CheckedHrpstringError, ChecksumError, CodeLengthError, InvalidResidueError,
     PaddingError, SegwitHrpstringError, UncheckedHrpstringError,
@@ -12,7 +13,6 @@ use crate::rules::{
     MAX_STRING_LENGTH, VERSION_0,
 };
 use crate::segwit::MAX_PROGRAM_LENGTH;
-use crate::text::ascii;
 use crate::{raw, Bech32, Checksum, Fe32, Hrp, Refusal};
 
 /// A text whose characters were tested, and its checksum not.
@@ -93,8 +93,15 @@ impl<'s> UncheckedHrpstring<'s> {
         let checked = if is_whole || length > Ck::CODE_LENGTH {
             raw::check(code.number, self.text.as_bytes())
         } else {
-            let without_version = format!("{}1{}", self.hrp, ascii(self.data_part));
-            raw::check(code.number, without_version.as_bytes())
+            let mut without_version = [0; BECH32_MAX_LONG_TEXT];
+            let head = self.hrp.len();
+            without_version[..head].copy_from_slice(self.hrp.as_bytes());
+            without_version[head] = b'1';
+            without_version[head + 1..][..self.data_part.len()].copy_from_slice(self.data_part);
+            raw::check(
+                code.number,
+                &without_version[..head + 1 + self.data_part.len()],
+            )
         };
         checked.map(|_| ()).map_err(|refusal| {
             unchecksummed(code, length, &self.hrp, self.data_part, refusal)
@@ -408,8 +415,13 @@ fn unchecksummed(
 // The remainder of a text.
 fn residue(code: Code, hrp: &Hrp, data_part: &[u8]) -> u32 {
     let elements = HrpFe32Iter::new(hrp).chain(AsciiToFe32Iter::new(data_part));
-    let elements: Vec<u8> = elements.map(Fe32::to_u8).collect();
-    residue_of(code, &elements)
+    // A text that is refused for its checksum is no longer, and the part is there twice.
+    let (mut values, mut count) = ([0; BECH32_MAX_LONG_TEXT + MAX_HRP_LENGTH], 0);
+    for element in elements {
+        values[count] = element.to_u8();
+        count += 1;
+    }
+    residue_of(code, &values[..count])
 }
 
 // The parts of a text that has a separator, to say why its checksum is refused.

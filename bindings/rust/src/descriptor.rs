@@ -17,10 +17,11 @@
 //! used, are filled with zeros after it; the strings that you give and get are yours.
 
 use crate::declared;
-use crate::raw::{self, Block};
+use crate::prelude::*;
+use crate::raw;
 use crate::text::ascii;
 use crate::Refusal;
-use std::fmt;
+use core::fmt;
 
 // The bytes that a call is lent at most, and that its texts fill at most.
 const MOST_MEMORY: usize = 256 << 20;
@@ -94,6 +95,7 @@ impl fmt::Display for Error {
     }
 }
 
+#[cfg(feature = "std")]
 impl std::error::Error for Error {}
 
 /// What is done to a mistyped text to mend it.
@@ -402,13 +404,11 @@ impl Room {
 // Calls with as much memory as suffices, from this many bytes on.
 fn with_memory(
     least: usize,
-    mut call: impl FnMut(&mut [Block]) -> Result<usize, Refusal>,
+    mut call: impl FnMut(usize) -> Result<usize, Refusal>,
 ) -> Result<usize, Error> {
     let mut size = least;
     loop {
-        let mut memory = vec![Block::ZEROS; size / Block::SIZE];
-        let counted = call(&mut memory);
-        raw::wipe(&mut memory, Block::ZEROS);
+        let counted = call(size);
         match counted {
             Err(Refusal::NoMemory) if size < MOST_MEMORY => {
                 size = MOST_MEMORY.min(GROWTH * size);

@@ -3,9 +3,10 @@
 use crate::checksum::CorrectingChecksum;
 use crate::declared;
 use crate::lent::{Lent, MOST_MEMORY};
+use crate::prelude::*;
 use crate::text::{ascii, in_case_of};
 use crate::{raw, Refusal};
-use std::fmt;
+use core::fmt;
 
 // The texts that there is room for at first. If there are more, the first call says how many, and a second
 // one puts them.

@@ -5,11 +5,13 @@ use crate::error::{
     causes, CheckedHrpstringError, ChecksumError, PaddingError, UncheckedHrpstringError,
 };
 use crate::part::MAX_HRP_LENGTH;
+use crate::prelude::*;
 use crate::primitives::decode::CheckedHrpstring;
 use crate::text::{ascii, too_long, written};
 use crate::{raw, Checksum, EncodeError, Fe32, Fe32IterExt, Hrp, Refusal};
+use core::fmt;
+#[cfg(feature = "std")]
 use std::error::Error;
-use std::fmt;
 
 /// Decodes a text that a checksum accepts: its human-readable part, in the case of the text, and its bytes.
 /// Other than [`decode`](crate::decode()), it tests the bits behind the last whole byte. So the text is, in its

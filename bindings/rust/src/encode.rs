@@ -4,8 +4,8 @@ use crate::checksum::HrpFe32Iter;
 use crate::iter::Checksummed;
 use crate::part::LowercaseCharIter;
 use crate::{Checksum, Fe32, Hrp};
-use std::iter::{once, Chain, FusedIterator, Once};
-use std::marker::PhantomData;
+use core::iter::{once, Chain, FusedIterator, Once};
+use core::marker::PhantomData;
 
 /// The text of elements: [`Fe32IterExt::with_checksum`](crate::Fe32IterExt::with_checksum) makes it. The
 /// length of the text is not tested.

@@ -4,13 +4,15 @@ use crate::checksum::BECH32;
 use crate::part;
 use crate::rules::{WitnessLengthError, MAX_STRING_LENGTH};
 use crate::Fe32;
+use core::fmt;
+#[cfg(feature = "std")]
 use std::error::Error;
-use std::fmt;
 
 // For each error an `impl Error` with its cause, and an `impl From` of the cause.
 macro_rules! causes {
     ($($error:ident { $($variant:ident($cause:ty)),* })*) => {
         $(
+            #[cfg(feature = "std")]
             impl Error for $error {
                 fn source(&self) -> Option<&(dyn Error + 'static)> {
                     match self {
@@ -61,6 +63,7 @@ impl fmt::Display for CharError {
     }
 }
 
+#[cfg(feature = "std")]
 impl Error for CharError {}
 
 /// Why a text is not in the grammar.
@@ -102,6 +105,7 @@ impl fmt::Display for CodeLengthError {
     }
 }
 
+#[cfg(feature = "std")]
 impl Error for CodeLengthError {}
 
 /// The remainder that a text leaves is not its checksum's target.
@@ -148,6 +152,7 @@ impl fmt::Display for InvalidResidueError {
     }
 }
 
+#[cfg(feature = "std")]
 impl Error for InvalidResidueError {}
 
 /// Why a checksum refuses a text.
@@ -206,6 +211,7 @@ impl fmt::Display for SegwitCodeLengthError {
     }
 }
 
+#[cfg(feature = "std")]
 impl Error for SegwitCodeLengthError {}
 
 /// Why the bits behind the last whole byte of a witness program are refused (BIP-173).
@@ -227,6 +233,7 @@ impl fmt::Display for PaddingError {
     }
 }
 
+#[cfg(feature = "std")]
 impl Error for PaddingError {}
 
 /// Why a text is no segwit address.

@@ -2,8 +2,9 @@
 
 use crate::checksum::BECH32;
 use crate::{raw, Checksum, Refusal};
+use core::fmt;
+#[cfg(feature = "std")]
 use std::error::Error;
-use std::fmt;
 
 /// Why a checksum does not accept a text, and where it is at fault.
 #[derive(Clone, Copy, Debug, PartialEq, Eq, Hash)]
@@ -56,6 +57,7 @@ impl fmt::Display for Fault {
     }
 }
 
+#[cfg(feature = "std")]
 impl Error for Fault {}
 
 /// Why a checksum does not accept a text, and where the text is at fault: None if it is accepted.

@@ -1,10 +1,11 @@
 //! Elements of five bits, which the characters of a data part stand for.
 
-use std::borrow::Borrow;
+use core::borrow::Borrow;
+use core::fmt;
+use core::num::TryFromIntError;
+use core::ops::{Add, AddAssign, Sub, SubAssign};
+#[cfg(feature = "std")]
 use std::error::Error;
-use std::fmt;
-use std::num::TryFromIntError;
-use std::ops::{Add, AddAssign, Sub, SubAssign};
 
 /// The characters of the elements from 0 to 31, in lower case (BIP-173).
 ///
@@ -223,6 +224,7 @@ impl fmt::Display for FromCharError {
     }
 }
 
+#[cfg(feature = "std")]
 impl Error for FromCharError {}
 
 /// Why a number is no element.
@@ -246,6 +248,7 @@ impl fmt::Display for TryFromError {
     }
 }
 
+#[cfg(feature = "std")]
 impl Error for TryFromError {
     fn source(&self) -> Option<&(dyn Error + 'static)> {
         match self {
@@ -261,8 +264,8 @@ impl From<TryFromIntError> for TryFromError {
     }
 }
 
-impl From<std::convert::Infallible> for TryFromError {
-    fn from(never: std::convert::Infallible) -> TryFromError {
+impl From<core::convert::Infallible> for TryFromError {
+    fn from(never: core::convert::Infallible) -> TryFromError {
         match never {}
     }
 }

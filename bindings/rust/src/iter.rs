@@ -3,8 +3,8 @@
 use crate::checksum::{Checksum, Engine, PackedFe32};
 use crate::encode::{together, Encoder};
 use crate::{Fe32, Hrp};
-use std::iter::{Copied, Fuse, FusedIterator};
-use std::slice;
+use core::iter::{Copied, Fuse, FusedIterator};
+use core::slice;
 
 /// Iterators of bytes, as elements.
 pub trait ByteIterExt: Sized + Iterator<Item = u8> {

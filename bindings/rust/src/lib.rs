@@ -58,21 +58,50 @@
 //! [BIP-350]: <https://github.com/bitcoin/bips/blob/master/bip-0350.mediawiki>
 //! [BIP-93]: <https://github.com/bitcoin/bips/blob/master/bip-0093.mediawiki>
 
-#![deny(unsafe_code)]
+#![no_std]
+// Without memory there are fewer calls than what they share.
+#![cfg_attr(not(feature = "alloc"), allow(unused_imports, dead_code))]
+#![forbid(unsafe_code)]
 #![warn(missing_docs)]
+
+#[cfg(feature = "alloc")]
+extern crate alloc;
+#[cfg(feature = "std")]
+extern crate std;
+
+// The proved library, as translator/translate writes it.
+#[cfg(not(feature = "c"))]
+#[rustfmt::skip]
+#[path = "../../../dist/bech32.rs"]
+mod bech32_form;
+#[cfg(all(feature = "codex32", not(feature = "c")))]
+#[rustfmt::skip]
+#[path = "../../../dist/codex32.rs"]
+mod codex32_form;
+
+// What std has in scope by itself.
+#[cfg(feature = "alloc")]
+mod prelude {
+    pub use alloc::borrow::ToOwned;
+    pub use alloc::string::{String, ToString};
+    pub use alloc::vec;
+    pub use alloc::vec::Vec;
+}
 
 mod checksum;
 #[cfg(feature = "codex32")]
 pub mod codex32;
+#[cfg(feature = "columns")]
 pub mod columns;
 #[cfg(feature = "correct")]
 mod correction;
 mod declared;
 mod decode;
-#[cfg(feature = "correct")]
+#[cfg(feature = "descriptor")]
 pub mod descriptor;
 #[cfg(feature = "correct")]
 mod edits;
+#[cfg(feature = "alloc")]
 mod elements;
 mod encode;
 mod error;
@@ -81,9 +110,9 @@ mod fe32;
 mod iter;
 #[cfg(feature = "correct")]
 mod lent;
+#[cfg(feature = "liquid")]
 pub mod liquid;
 mod part;
-#[allow(unsafe_code)]
 mod raw;
 mod refusal;
 mod refusals;
@@ -100,17 +129,21 @@ pub use checksum::{Bech32, Bech32m, Checksum, LongBech32, LongBech32m, NoChecksu
 pub use correction::{correct, nearest, Change, Correction};
 #[cfg(feature = "correct")]
 pub use edits::{near_edits, Edit, NearEdit};
+#[cfg(feature = "alloc")]
 pub use elements::{decode_elements, decode_strict, encode_elements, TextError};
 pub use fault::{fault, Fault};
 pub use fe32::{Fe32, ALPHABET};
 pub use iter::{ByteIterExt, Fe32IterExt};
 pub use part::Hrp;
 pub use refusal::Refusal;
+#[cfg(feature = "alloc")]
+pub use text::{decode, decode_with_checksum, encode, encode_lower, encode_upper};
 pub use text::{
-    decode, decode_with_checksum, encode, encode_lower, encode_lower_to_fmt,
-    encode_lower_to_writer, encode_to_fmt, encode_to_writer, encode_upper, encode_upper_to_fmt,
-    encode_upper_to_writer, encoded_length, DecodeError, EncodeError, EncodeIoError, Variant,
+    encode_lower_to_fmt, encode_to_fmt, encode_upper_to_fmt, encoded_length, DecodeError,
+    EncodeError, Variant,
 };
+#[cfg(feature = "std")]
+pub use text::{encode_lower_to_writer, encode_to_writer, encode_upper_to_writer, EncodeIoError};
 
 /// Human-readable parts, and those of the Bitcoin networks.
 pub mod hrp {

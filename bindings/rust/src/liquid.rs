@@ -17,6 +17,7 @@
 use crate::correction::{nearest_by, Correction};
 use crate::declared;
 use crate::part::MAX_HRP_LENGTH;
+use crate::prelude::*;
 use crate::text::ascii;
 use crate::{raw, Hrp, Refusal};
 

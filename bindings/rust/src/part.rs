@@ -2,13 +2,15 @@
 
 use crate::checksum::BECH32;
 use crate::declared::BECH32_MAX_HRP;
+#[cfg(feature = "alloc")]
+use crate::prelude::*;
 use crate::text::ascii;
 use crate::{raw, Refusal};
-use std::cmp::Ordering;
-use std::fmt;
-use std::hash::{Hash, Hasher};
-use std::iter::{Copied, Map};
-use std::slice;
+use core::cmp::Ordering;
+use core::fmt;
+use core::hash::{Hash, Hasher};
+use core::iter::{Copied, Map};
+use core::slice;
 
 /// The bytes that a human-readable part has at most (BIP-173).
 pub(crate) const MAX_HRP_LENGTH: usize = BECH32_MAX_HRP;
@@ -88,6 +90,7 @@ impl Hrp {
     /// # Errors
     ///
     /// Those of [`Hrp::parse`].
+    #[cfg(feature = "alloc")]
     pub fn parse_display<T: fmt::Display>(data: T) -> Result<Hrp, Error> {
         Hrp::parse(&data.to_string())
     }
@@ -126,6 +129,7 @@ impl Hrp {
     }
 
     /// Its characters in lower case.
+    #[cfg(feature = "alloc")]
     pub fn to_lowercase(&self) -> String {
         self.as_str().to_ascii_lowercase()
     }
@@ -257,8 +261,12 @@ impl Error {
 // The character of a part that may not stand there. The library tells its place in a text that begins
 // with the part. There letters of both cases would be told first.
 fn at_fault(hrp: &str) -> Option<char> {
-    let text = hrp.to_ascii_lowercase() + "1qqqqqq";
-    let (_, place) = raw::fault(BECH32.number, text.as_bytes()).err()?;
+    let mut text = [b'q'; MAX_HRP_LENGTH + WITHOUT_DATA];
+    let length = hrp.len();
+    text[..length].copy_from_slice(hrp.as_bytes());
+    text[..length].make_ascii_lowercase();
+    text[length] = b'1';
+    let (_, place) = raw::fault(BECH32.number, &text[..length + WITHOUT_DATA]).err()?;
     hrp[place..].chars().next()
 }
 
@@ -279,4 +287,5 @@ impl fmt::Display for Error {
     }
 }
 
+#[cfg(feature = "std")]
 impl std::error::Error for Error {}

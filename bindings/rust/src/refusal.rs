@@ -43,14 +43,16 @@ macro_rules! refusals {
             }
         }
 
-        impl std::fmt::Display for $type {
-            fn fmt(&self, f: &mut std::fmt::Formatter<'_>) -> std::fmt::Result {
+        impl core::fmt::Display for $type {
+            fn fmt(&self, f: &mut core::fmt::Formatter<'_>) -> core::fmt::Result {
                 f.write_str(match self {
                     $($type::$name => $words,)*
                 })
             }
         }
 
+        #[cfg(feature = "std")]
+        #[cfg(feature = "std")]
         impl std::error::Error for $type {}
     };
 }

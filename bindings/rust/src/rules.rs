@@ -4,8 +4,9 @@
 use crate::declared::BECH32_MAX_SEGWIT_TEXT;
 use crate::segwit::MAX_PROGRAM_LENGTH;
 use crate::{raw, Fe32, Refusal};
+use core::fmt;
+#[cfg(feature = "std")]
 use std::error::Error;
-use std::fmt;
 
 /// The characters that a segwit address has at most.
 pub const MAX_STRING_LENGTH: usize = BECH32_MAX_SEGWIT_TEXT;
@@ -90,6 +91,7 @@ impl fmt::Display for InvalidWitnessVersionError {
     }
 }
 
+#[cfg(feature = "std")]
 impl Error for InvalidWitnessVersionError {}
 
 /// Why a witness program is not of a lawful length.
@@ -128,4 +130,5 @@ impl fmt::Display for WitnessLengthError {
     }
 }
 
+#[cfg(feature = "std")]
 impl Error for WitnessLengthError {}

@@ -20,14 +20,19 @@ use crate::declared::BECH32_MAX_SEGWIT_PROGRAM;
 use crate::decode::no_address;
 use crate::error::{causes, SegwitCodeLengthError, SegwitHrpstringError};
 use crate::part::MAX_HRP_LENGTH;
+#[cfg(feature = "alloc")]
+use crate::prelude::*;
 use crate::rules::{
     validate_witness_program_length, validate_witness_version, InvalidWitnessVersionError,
     WitnessLengthError, MAX_STRING_LENGTH,
 };
 use crate::text::length_of;
 use crate::{raw, Bech32, Fe32, Hrp, Refusal};
+use core::fmt;
+#[cfg(feature = "std")]
 use std::error::Error;
-use std::{fmt, io};
+#[cfg(feature = "std")]
+use std::io;
 
 pub use crate::rules::{VERSION_0, VERSION_1};
 #[cfg(feature = "correct")]
@@ -46,7 +51,7 @@ fn put<'b>(
     let version = u32::from(version.to_u8());
     let length = raw::segwit_encode(hrp.as_bytes(), version, program, buffer)?;
     let written = &mut buffer[..length];
-    Ok(std::str::from_utf8_mut(written).expect("the library's characters are ASCII"))
+    Ok(core::str::from_utf8_mut(written).expect("the library's characters are ASCII"))
 }
 
 /// Encodes the segwit address of a witness version and a program, in lower case.
@@ -56,6 +61,7 @@ fn put<'b>(
 /// The first of: a version above 16; a program of no lawful length; an address of more than
 /// [`MAX_STRING_LENGTH`] characters. Of a part that [`Hrp::parse`] would refuse,
 /// [`EncodeError::Fmt`].
+#[cfg(feature = "alloc")]
 pub fn encode(
     hrp: Hrp,
     witness_version: Fe32,
@@ -70,6 +76,7 @@ pub fn encode(
 
 // Why there is no such address. The library refuses the part first, and the crate last.
 #[cold]
+#[cfg(feature = "alloc")]
 fn first_refusal(hrp: Hrp, version: Fe32, program: &[u8]) -> EncodeError {
     let tested = || {
         validate_witness_version(version)?;
@@ -85,6 +92,7 @@ fn first_refusal(hrp: Hrp, version: Fe32, program: &[u8]) -> EncodeError {
 /// # Errors
 ///
 /// Those of [`encode`].
+#[cfg(feature = "alloc")]
 pub fn encode_v0(hrp: Hrp, witness_program: &[u8]) -> Result<String, EncodeError> {
     encode(hrp, VERSION_0, witness_program)
 }
@@ -94,6 +102,7 @@ pub fn encode_v0(hrp: Hrp, witness_program: &[u8]) -> Result<String, EncodeError
 /// # Errors
 ///
 /// Those of [`encode`].
+#[cfg(feature = "alloc")]
 pub fn encode_v1(hrp: Hrp, witness_program: &[u8]) -> Result<String, EncodeError> {
     encode(hrp, VERSION_1, witness_program)
 }
@@ -151,6 +160,7 @@ pub fn encode_upper_to_fmt_unchecked<W: fmt::Write>(
 /// # Errors
 ///
 /// If there is no such address, and then nothing is written; or if the writer fails.
+#[cfg(feature = "std")]
 pub fn encode_to_writer_unchecked<W: io::Write>(
     w: &mut W,
     hrp: Hrp,
@@ -165,6 +175,7 @@ pub fn encode_to_writer_unchecked<W: io::Write>(
 /// # Errors
 ///
 /// If there is no such address, and then nothing is written; or if the writer fails.
+#[cfg(feature = "std")]
 pub fn encode_lower_to_writer_unchecked<W: io::Write>(
     w: &mut W,
     hrp: Hrp,
@@ -181,6 +192,7 @@ pub fn encode_lower_to_writer_unchecked<W: io::Write>(
 /// # Errors
 ///
 /// If there is no such address, and then nothing is written; or if the writer fails.
+#[cfg(feature = "std")]
 pub fn encode_upper_to_writer_unchecked<W: io::Write>(
     w: &mut W,
     hrp: Hrp,
@@ -195,6 +207,7 @@ pub fn encode_upper_to_writer_unchecked<W: io::Write>(
 }
 
 // Why there is no address to write.
+#[cfg(feature = "std")]
 fn unwritten(refusal: Refusal) -> io::Error {
     io::Error::new(io::ErrorKind::InvalidInput, refusal)
 }
@@ -231,6 +244,7 @@ pub fn encoded_length(
 /// # Errors
 ///
 /// Those of [`SegwitHrpstring::new`](crate::primitives::decode::SegwitHrpstring::new).
+#[cfg(feature = "alloc")]
 pub fn decode(s: &str) -> Result<(Hrp, Fe32, Vec<u8>), DecodeError> {
     let (mut hrp, mut program) = ([0; MAX_HRP_LENGTH], [0; MAX_PROGRAM_LENGTH]);
     let (hrp_length, version, program_length) =
@@ -254,6 +268,7 @@ impl fmt::Display for DecodeError {
     }
 }
 
+#[cfg(feature = "std")]
 impl Error for DecodeError {
     fn source(&self) -> Option<&(dyn Error + 'static)> {
         Some(&self.0)

@@ -2,10 +2,11 @@
 
 use crate::declared;
 use crate::edits::Edit;
-use crate::raw::{self, Block};
+use crate::prelude::*;
+use crate::raw;
 use crate::text::{ascii, in_case_of, is_in_upper_case};
 use crate::{Change, Hrp, Refusal};
-use std::fmt;
+use core::fmt;
 
 // These suffice for each call: bytes that are lent, and room for this many addresses.
 const MEMORY: usize = declared::BECH32_SUGGEST_MEMORY;
@@ -78,14 +79,13 @@ impl fmt::Display for Suggestion {
 ///
 /// What `bech32_suggest` refuses with: what is wrong with the characters of the text.
 pub fn suggest(s: &str, hrp: Hrp) -> Result<Vec<Suggestion>, Refusal> {
-    let mut memory = vec![Block::ZEROS; MEMORY / Block::SIZE];
     let (mut kinds, mut places) = ([0; MOST], [0; MOST]);
     let mut texts = vec![0; MOST * MAX_LENGTH];
     let part = hrp.as_bytes();
     let count = raw::suggest(
         s.as_bytes(),
         part,
-        &mut memory,
+        MEMORY,
         &mut kinds,
         &mut places,
         &mut texts,

@@ -1,27 +1,35 @@
 //! Texts of any human-readable part.
 
 use crate::checksum::BECH32M;
-use crate::declared::{BECH32_MAX_BYTES, BECH32_MAX_TEXT};
+#[cfg(feature = "alloc")]
+use crate::declared::BECH32_MAX_BYTES;
+use crate::declared::{BECH32_MAX_LONG_TEXT, BECH32_MAX_TEXT};
 use crate::decode::undecoded;
 use crate::error::{
     causes, CheckedHrpstringError, ChecksumError, CodeLengthError, UncheckedHrpstringError,
 };
 use crate::iter::{ByteIterExt, Fe32IterExt};
 use crate::part::MAX_HRP_LENGTH;
+#[cfg(feature = "alloc")]
+use crate::prelude::*;
 use crate::{raw, Checksum, Hrp};
+use core::fmt;
+#[cfg(feature = "std")]
 use std::error::Error;
-use std::{fmt, io};
+#[cfg(feature = "std")]
+use std::io;
 
 /// The characters that a text has at most which is mended.
 #[cfg(feature = "correct")]
 pub(crate) const MAX_TEXT_LENGTH: usize = BECH32_MAX_TEXT;
 
 // The bytes that a text has at most.
+#[cfg(feature = "alloc")]
 const MAX_BYTES: usize = BECH32_MAX_BYTES;
 
 /// The text of characters that the library wrote, or read in a text: ASCII.
 pub(crate) fn ascii(bytes: &[u8]) -> &str {
-    std::str::from_utf8(bytes).expect("the library's characters are ASCII")
+    core::str::from_utf8(bytes).expect("the library's characters are ASCII")
 }
 
 /// Whether a text in the grammar has letters in upper case, and so none in lower case.
@@ -83,6 +91,7 @@ pub(crate) fn too_long<Ck: Checksum>(encoded_length: usize) -> Result<usize, Cod
 /// [`EncodeError::TooLong`] where the text would have more than 1023 characters, or 7089 by a long checksum, if
 /// it has a checksum.
 /// Of a part that [`Hrp::parse`] would refuse, [`EncodeError::Fmt`].
+#[cfg(feature = "alloc")]
 pub fn encode<Ck: Checksum>(hrp: Hrp, data: &[u8]) -> Result<String, EncodeError> {
     encode_lower::<Ck>(hrp, data)
 }
@@ -92,6 +101,7 @@ pub fn encode<Ck: Checksum>(hrp: Hrp, data: &[u8]) -> Result<String, EncodeError
 /// # Errors
 ///
 /// Those of [`encode`].
+#[cfg(feature = "alloc")]
 pub fn encode_lower<Ck: Checksum>(hrp: Hrp, data: &[u8]) -> Result<String, EncodeError> {
     let length = encoded_length::<Ck>(hrp, data)?;
     let Some(code) = Ck::CODE else {
@@ -103,11 +113,13 @@ pub fn encode_lower<Ck: Checksum>(hrp: Hrp, data: &[u8]) -> Result<String, Encod
 }
 
 /// The text that the library wrote. It refuses none of these but for the human-readable part.
+#[cfg(feature = "alloc")]
 pub(crate) fn written(text: Option<String>) -> Result<String, EncodeError> {
     text.ok_or(EncodeError::Fmt(fmt::Error))
 }
 
 // The library has no call for these texts: it tests the human-readable part alone.
+#[cfg(feature = "alloc")]
 fn without_checksum<Ck: Checksum>(hrp: Hrp, data: &[u8]) -> Result<String, EncodeError> {
     Hrp::parse(hrp.as_str()).map_err(|_| EncodeError::Fmt(fmt::Error))?;
     let elements = data.iter().copied().bytes_to_fes();
@@ -119,10 +131,56 @@ fn without_checksum<Ck: Checksum>(hrp: Hrp, data: &[u8]) -> Result<String, Encod
 /// # Errors
 ///
 /// Those of [`encode`].
+#[cfg(feature = "alloc")]
 pub fn encode_upper<Ck: Checksum>(hrp: Hrp, data: &[u8]) -> Result<String, EncodeError> {
     let mut text = encode_lower::<Ck>(hrp, data)?;
     text.make_ascii_uppercase();
     Ok(text)
+}
+
+// Hands over the text of bytes, in lower case, of which no memory is taken for one of at most 1023 characters.
+fn in_buffer<Ck: Checksum>(
+    hrp: Hrp,
+    data: &[u8],
+    write: &mut dyn FnMut(&mut str) -> fmt::Result,
+) -> Result<(), EncodeError> {
+    let length = encoded_length::<Ck>(hrp, data)?;
+    let Some(code) = Ck::CODE else {
+        Hrp::parse(hrp.as_str()).map_err(|_| EncodeError::Fmt(fmt::Error))?;
+        let characters = data
+            .iter()
+            .copied()
+            .bytes_to_fes()
+            .with_checksum::<Ck>(&hrp)
+            .chars();
+        for character in characters {
+            write(character.encode_utf8(&mut [0; 4]))?;
+        }
+        return Ok(());
+    };
+    if length > BECH32_MAX_TEXT {
+        return put(
+            code.number,
+            hrp,
+            data,
+            &mut [0; BECH32_MAX_LONG_TEXT],
+            write,
+        );
+    }
+    put(code.number, hrp, data, &mut [0; BECH32_MAX_TEXT], write)
+}
+
+fn put(
+    checksum: u32,
+    hrp: Hrp,
+    data: &[u8],
+    buffer: &mut [u8],
+    write: &mut dyn FnMut(&mut str) -> fmt::Result,
+) -> Result<(), EncodeError> {
+    let length = raw::encode(checksum, hrp.as_bytes(), data, buffer);
+    let length = length.map_err(|_| EncodeError::Fmt(fmt::Error))?;
+    let text = core::str::from_utf8_mut(&mut buffer[..length]);
+    Ok(write(text.expect("the library's characters are ASCII"))?)
 }
 
 /// Writes the text of bytes, in lower case.
@@ -148,7 +206,7 @@ pub fn encode_lower_to_fmt<Ck: Checksum, W: fmt::Write>(
     hrp: Hrp,
     data: &[u8],
 ) -> Result<(), EncodeError> {
-    Ok(fmt.write_str(&encode_lower::<Ck>(hrp, data)?)?)
+    in_buffer::<Ck>(hrp, data, &mut |text| fmt.write_str(text))
 }
 
 /// Writes the text of bytes, in upper case.
@@ -161,7 +219,10 @@ pub fn encode_upper_to_fmt<Ck: Checksum, W: fmt::Write>(
     hrp: Hrp,
     data: &[u8],
 ) -> Result<(), EncodeError> {
-    Ok(fmt.write_str(&encode_upper::<Ck>(hrp, data)?)?)
+    in_buffer::<Ck>(hrp, data, &mut |text| {
+        text.make_ascii_uppercase();
+        fmt.write_str(text)
+    })
 }
 
 /// Writes the text of bytes, in lower case.
@@ -170,6 +231,7 @@ pub fn encode_upper_to_fmt<Ck: Checksum, W: fmt::Write>(
 ///
 /// Those of [`encode`], of which nothing is written, and [`EncodeIoError::Write`] where the writer
 /// fails.
+#[cfg(feature = "std")]
 pub fn encode_to_writer<Ck: Checksum, W: io::Write>(
     w: &mut W,
     hrp: Hrp,
@@ -183,6 +245,7 @@ pub fn encode_to_writer<Ck: Checksum, W: io::Write>(
 /// # Errors
 ///
 /// Those of [`encode_to_writer`].
+#[cfg(feature = "std")]
 pub fn encode_lower_to_writer<Ck: Checksum, W: io::Write>(
     w: &mut W,
     hrp: Hrp,
@@ -197,6 +260,7 @@ pub fn encode_lower_to_writer<Ck: Checksum, W: io::Write>(
 /// # Errors
 ///
 /// Those of [`encode_to_writer`].
+#[cfg(feature = "std")]
 pub fn encode_upper_to_writer<Ck: Checksum, W: io::Write>(
     w: &mut W,
     hrp: Hrp,
@@ -207,6 +271,7 @@ pub fn encode_upper_to_writer<Ck: Checksum, W: io::Write>(
 }
 
 // Why there is no text to write.
+#[cfg(feature = "std")]
 fn unwritten(e: EncodeError) -> EncodeIoError {
     match e {
         EncodeError::TooLong(e) => EncodeIoError::TooLong(e),
@@ -236,6 +301,7 @@ fn unwritten(e: EncodeError) -> EncodeIoError {
 ///
 /// The text's first fault: its characters; its human-readable part; its length; its checksum, of
 /// which the error is that of Bech32m.
+#[cfg(feature = "alloc")]
 pub fn decode(s: &str) -> Result<(Hrp, Vec<u8>), DecodeError> {
     let (mut hrp, mut bytes) = ([0; MAX_HRP_LENGTH], [0; MAX_BYTES]);
     let (hrp_length, bytes_length) =
@@ -262,6 +328,7 @@ pub fn decode(s: &str) -> Result<(Hrp, Vec<u8>), DecodeError> {
 /// # Errors
 ///
 /// Those of [`decode`].
+#[cfg(feature = "alloc")]
 pub fn decode_with_checksum(s: &str) -> Result<(Hrp, Vec<u8>, Variant), DecodeError> {
     let (hrp, bytes) = decode(s)?;
     let variant = match raw::check(BECH32M.number, s.as_bytes()) {
@@ -337,6 +404,7 @@ impl fmt::Display for EncodeError {
 }
 
 /// Why a text is not written.
+#[cfg(feature = "std")]
 #[derive(Debug)]
 #[non_exhaustive]
 pub enum EncodeIoError {
@@ -346,6 +414,7 @@ pub enum EncodeIoError {
     Write(io::Error),
 }
 
+#[cfg(feature = "std")]
 impl fmt::Display for EncodeIoError {
     fn fmt(&self, f: &mut fmt::Formatter<'_>) -> fmt::Result {
         f.write_str(match self {
@@ -358,5 +427,9 @@ impl fmt::Display for EncodeIoError {
 causes! {
     DecodeError { Parse(UncheckedHrpstringError), Checksum(ChecksumError) }
     EncodeError { TooLong(CodeLengthError), Fmt(fmt::Error) }
+}
+
+#[cfg(feature = "std")]
+causes! {
     EncodeIoError { TooLong(CodeLengthError), Write(io::Error) }
 }

@@ -3,7 +3,7 @@
 use super::{character, Refusal};
 use crate::text::ascii;
 use crate::{raw, Fe32};
-use std::fmt;
+use core::fmt;
 
 // The characters of an identifier.
 const IDENTIFIER_LENGTH: usize = 4;

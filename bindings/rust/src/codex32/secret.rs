@@ -1,10 +1,11 @@
 //! What is secret: wiped when it is dropped.
 
+use crate::prelude::*;
 use crate::raw;
 use crate::text::is_in_upper_case;
-use std::fmt;
-use std::hint::black_box;
-use std::ops::Deref;
+use core::fmt;
+use core::hint::black_box;
+use core::ops::Deref;
 
 // Puts zeros over all of the memory of a vector, that behind its end too.
 fn wipe(bytes: &mut Vec<u8>) {
@@ -138,7 +139,7 @@ impl SecretText {
 
     // The text of bytes that the library wrote.
     pub(super) fn written(mut bytes: SecretBytes) -> SecretText {
-        let text = String::from_utf8(std::mem::take(&mut bytes.0));
+        let text = String::from_utf8(core::mem::take(&mut bytes.0));
         // The error would show them.
         let text = text.map_err(|_| "other bytes");
         SecretText(text.expect("the library's characters are ASCII"))
@@ -190,7 +191,7 @@ impl fmt::Debug for SecretText {
 
 impl Drop for SecretText {
     fn drop(&mut self) {
-        wipe(&mut std::mem::take(&mut self.0).into_bytes());
+        wipe(&mut core::mem::take(&mut self.0).into_bytes());
     }
 }
 

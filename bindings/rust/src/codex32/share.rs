@@ -2,7 +2,7 @@
 
 use super::{Header, Identifier, Refusal, SecretBytes, Threshold, MAX_BYTES};
 use crate::{raw, Fe32};
-use std::fmt;
+use core::fmt;
 
 // Where the payload begins, and how many characters stand behind it in a string, by the most characters of
 // one with the shorter checksum.

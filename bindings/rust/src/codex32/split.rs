@@ -2,9 +2,13 @@
 
 use super::secret::{SecretBytes, SecretText};
 use super::{joined, Identifier, Refusal, Threshold, MAX_BYTES, MAX_SHARES, MAX_TEXT_LENGTH};
+use crate::prelude::*;
 use crate::{raw, Fe32};
+use core::fmt;
+#[cfg(feature = "std")]
 use std::error::Error;
-use std::{fmt, io};
+#[cfg(feature = "std")]
+use std::io;
 
 /// The shares that a secret is split into at most: one at each index but `s`.
 pub const MAX_SPLIT: usize = MAX_SHARES - 1;
@@ -34,6 +38,7 @@ impl fmt::Display for SplitError {
     }
 }
 
+#[cfg(feature = "std")]
 impl Error for SplitError {
     fn source(&self) -> Option<&(dyn Error + 'static)> {
         match self {
@@ -229,7 +234,7 @@ fn draw(_: &mut [u8]) -> io::Result<()> {
 #[cfg(test)]
 mod tests {
     use super::*;
-    use std::cell::Cell;
+    use core::cell::Cell;
 
     fn threshold(number: u8) -> Threshold {
         Threshold::new(number).unwrap()

@@ -10,7 +10,7 @@ use bech32_proved::codex32::{
 use bech32_proved::{fault, Fe32, NoChecksum};
 use std::collections::HashSet;
 
-const HEADER: &str = include_str!(env!("CODEX32_HEADER"));
+const HEADER: &str = include_str!("../../../../dist/codex32.h");
 
 // Lines of c32, each with its reply. The first ten are the examples of BIP-93.
 const LINES: &str = include_str!("lines.tsv");

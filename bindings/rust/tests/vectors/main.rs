@@ -23,7 +23,7 @@ use bech32_proved::{
 use std::collections::hash_map::DefaultHasher;
 use std::hash::{Hash, Hasher};
 
-const HEADER: &str = include_str!(env!("BECH32_HEADER"));
+const HEADER: &str = include_str!("../../../../dist/bech32.h");
 
 // The number that the library answers: 0, or that of the refusal.
 fn number<T>(result: Result<T, impl Into<Refusal>>) -> u32 {

@@ -1,4 +1,4 @@
-//! Gives cargo the libraries `bech32_c`, and by the feature `codex32` also `codex32_c`.
+//! Gives cargo the libraries `bech32_c` and `codex32_c`.
 //!
 //! For Linux on x86-64 the first is `libbech32_c.a`, in the folder that BECH32_C_FOLDER names, else in the folder `lib` of
 //! this package, else where the toolchain builds it in the repository. For every other target, where none of these is
@@ -116,7 +116,13 @@ fn compiled(name: &str, source: &Path, header: &Path) -> PathBuf {
 fn source_of(name: &str, top: &Path) -> PathBuf {
     let variable = format!("{}_C_SOURCE", name.to_uppercase());
     let source = named(&variable).map_or_else(
-        || either(top, &format!("c/{name}.c"), &format!("../../dist/{name}.c")),
+        || {
+            either(
+                top,
+                &format!("c/{name}.c"),
+                &format!("../../../dist/{name}.c"),
+            )
+        },
         PathBuf::from,
     );
     println!("cargo:rerun-if-changed={}", source.display());
@@ -137,7 +143,7 @@ fn folder_of(name: &str, top: &Path) -> Option<PathBuf> {
     let folder = named(&variable);
     let library = folder.as_ref().map_or_else(
         || {
-            let built = format!("../../crates/{name}_c/out/{file}");
+            let built = format!("../../../crates/{name}_c/out/{file}");
             either(top, &format!("lib/{file}"), &built)
         },
         |folder| Path::new(folder).join(&file),
@@ -147,7 +153,7 @@ fn folder_of(name: &str, top: &Path) -> Option<PathBuf> {
         return library.parent().map(Path::to_path_buf);
     }
     // Where the toolchain may put it later. A missing file would make cargo build each time.
-    let below = top.join(format!("../../crates/{name}_c"));
+    let below = top.join(format!("../../../crates/{name}_c"));
     if below.is_dir() {
         println!("cargo:rerun-if-changed={}", below.display());
     }
@@ -166,7 +172,7 @@ fn folder_of(name: &str, top: &Path) -> Option<PathBuf> {
 // Gives cargo a library, and its header to the tests.
 fn link(name: &str, top: &Path, has_archive: bool) {
     let (upper, header) = (name.to_uppercase(), format!("include/{name}.h"));
-    let header = either(top, &header, &format!("../../{header}"));
+    let header = either(top, &header, &format!("../../../{header}"));
     println!("cargo:rustc-env={upper}_HEADER={}", header.display());
     println!("cargo:rerun-if-changed={}", header.display());
     let is_named = named(&format!("{upper}_C_SOURCE")).is_some();
@@ -185,7 +191,5 @@ fn main() {
     let of = |name: &str| env::var(format!("CARGO_CFG_TARGET_{name}")).unwrap_or_default();
     let has_archive = of("ARCH") == "x86_64" && of("OS") == "linux" && of("POINTER_WIDTH") == "64";
     link("bech32", &top, has_archive);
-    if env::var_os("CARGO_FEATURE_CODEX32").is_some() {
-        link("codex32", &top, has_archive);
-    }
+    link("codex32", &top, has_archive);
 }
