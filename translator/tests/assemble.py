@@ -291,6 +291,8 @@ def of_control():
         "dropped": "local.get:0 i64.const:1 i64.add drop nop local.get:1",
         "numbers": "local.get:0 i64.const:-9223372036854775808 i64.xor local.get:1 i64.const:4294967296 i64.add i64.add "
                    "i32.const:-2147483648 i64.extend_i32_u i64.add i32.const:-1 i64.extend_i32_s i64.xor",
+        "numbers_alone": "i64.const:3 i64.const:127 i64.shl i64.const:-5 i64.const:7 i64.mul i64.add local.get:0 i64.xor i32.const:-1 "
+                         "i32.const:2147483647 i32.sub i64.extend_i32_s i64.add i64.const:65535 i64.extend16_s local.get:1 i64.and i64.xor",
         "unreachable": f"{low} if unreachable end local.get:1",
         "behind": "block:i64 local.get:1 br:0 i64.const:3 i64.mul block br:0 end i32.wrap_i64 if unreachable else nop end i64.const:2 end",
         "call": "local.get:1 i64.const:3 i64.mul local.get:0 call:i64_sub local.get:0 call:loop",
