@@ -1,5 +1,5 @@
 //! The functions of bech32.h in Rust without unsafe code, made of the proved library's object for WebAssembly (sha256
-//! 2362ebba8e0d69676cef9478b428958bba586289f49b59994ec0f94093ccf8aa) by translator/translate; do not edit.
+//! 5bda89596b20f7c5928b55e4ebca5c173dbccb0e21faa46a2d76c5480e0953ef) by translator/translate; do not edit.
 #![allow(unused, clippy::all, clippy::pedantic, clippy::nursery, clippy::restriction)]
 
 // The machine on which the functions of a library for wasm64 run, without unsafe code. A call makes its memory, one slice: the
@@ -9,6 +9,17 @@
 
 /// The address of the first constant.
 const FIRST: u64 = 1 << 32;
+
+/// The first of some bytes.
+const fn first_of<const N: usize>(bytes: &[u8]) -> [u8; N] {
+    let mut first = [0; N];
+    let mut i = 0;
+    while i < N {
+        first[i] = bytes[i];
+        i += 1;
+    }
+    first
+}
 
 /// What the library does where it does what it is proved never to do.
 #[cold]
@@ -232,7 +243,9 @@ fn take_sizes(m: &[u8], at: u64, sizes: &mut [usize]) {
     }
 }
 
-static CONSTANTS: [u8; 61672] = *b"\
+const CONSTANTS_SIZE: usize = 61672;
+static CONSTANTS: [u8; CONSTANTS_SIZE] = first_of(ALL_CONSTANTS);
+const ALL_CONSTANTS: &[u8; 61672] = b"\
     \x00\x00\x00\x01\x00\x00\x00\x01\x00\x00\x00\x01\x00\x00\x00\x01\x00\x00\x00\x01\x00\x00\x00\x01\x00\x00\x00\x01\x00\x00\x00\x01\
     \x00\x00\x00\x01\x00\x00\x00\x01\x00\x00\x00\x01\x00\x00\x00\x01\x00\x00\x00\x01\x00\x00\x00\x01\x00\x00\x00\x01\x00\x00\x00\x01\
     \x00\x00\x00\x01\x00\x00\x00\x01\x00\x00\x00\x01\x00\x00\x00\x01\x00\x00\x00\x01\x00\x00\x00\x01\x00\x00\x00\x01\x00\x00\x00\x01\
@@ -2434,6 +2447,7 @@ pub fn bech32_decode(text: &[u8], hrp: &mut [u8], hrp_length: &mut usize, bytes:
     })
 }
 
+#[cfg(feature = "elements")]
 pub fn bech32_decode_strict(checksum: u32, text: &[u8], hrp: &mut [u8], hrp_length: &mut usize, bytes: &mut [u8], bytes_length: &mut usize) -> u32 {
     let hrp = some_mut(hrp);
     let bytes = some_mut(bytes);
@@ -2460,6 +2474,7 @@ pub fn bech32_decode_strict(checksum: u32, text: &[u8], hrp: &mut [u8], hrp_leng
     })
 }
 
+#[cfg(feature = "elements")]
 pub fn bech32_decode_elements(checksum: u32, text: &[u8], hrp: &mut [u8], hrp_length: &mut usize, elements: &mut [u8], elements_length: &mut usize) -> u32 {
     let hrp = some_mut(hrp);
     let elements = some_mut(elements);
@@ -2486,6 +2501,7 @@ pub fn bech32_decode_elements(checksum: u32, text: &[u8], hrp: &mut [u8], hrp_le
     })
 }
 
+#[cfg(feature = "elements")]
 pub fn bech32_encode_elements(checksum: u32, hrp: &[u8], elements: &[u8], place: &mut usize, text: &mut [u8], text_length: &mut usize) -> u32 {
     let text = some_mut(text);
     let mut layout = Layout(STACK_BECH32_ENCODE_ELEMENTS as u64);
@@ -13726,6 +13742,7 @@ return l3;
 }
 
 // bech32_checksum::Engine::input_hrp::<#39fd342f4eda3caf>
+#[cfg(any(feature = "correct", feature = "elements"))]
 fn f84(m: &mut [u8], mut g: u64, mut l0: u64, mut l1: u64) {
 let mut l2: u64 = 0;
 let mut l3: u32 = 0;
@@ -13777,6 +13794,7 @@ store_32(m, l0, t1);
 }
 
 // bech32_checksum::Engine::input_hrp::<#727822b78d613c49>
+#[cfg(any(feature = "correct", feature = "elements"))]
 fn f85(m: &mut [u8], mut g: u64, mut l0: u64, mut l1: u64) {
 let mut l2: u64 = 0;
 let mut l3: u32 = 0;
@@ -60362,6 +60380,7 @@ return l12;
 }
 
 // bech32_decode_elements
+#[cfg(feature = "elements")]
 fn of_bech32_decode_elements(m: &mut [u8], mut g: u64, mut l0: u32, mut l1: u64, mut l2: u64, mut l3: u64, mut l4: u64, mut l5: u64, mut l6: u64, mut l7: u64, mut l8: u64) -> u32 {
 'b1: {
 if (0u32 == 0) { break 'b1; }
@@ -60374,6 +60393,7 @@ return l0;
 }
 
 // rattle::export bech32_decode_elements
+#[cfg(feature = "elements")]
 fn f290(m: &mut [u8], mut g: u64, mut l0: u32, mut l1: u64, mut l2: u64, mut l3: u64, mut l4: u64, mut l5: u64, mut l6: u64, mut l7: u64, mut l8: u64) -> u32 {
 let mut l9: u64 = 0;
 let mut l10: u64 = 0;
@@ -61295,6 +61315,7 @@ return l15;
 }
 
 // bech32_decode_strict
+#[cfg(feature = "elements")]
 fn of_bech32_decode_strict(m: &mut [u8], mut g: u64, mut l0: u32, mut l1: u64, mut l2: u64, mut l3: u64, mut l4: u64, mut l5: u64, mut l6: u64, mut l7: u64, mut l8: u64) -> u32 {
 'b1: {
 if (0u32 == 0) { break 'b1; }
@@ -61307,6 +61328,7 @@ return l0;
 }
 
 // rattle::export bech32_decode_strict
+#[cfg(feature = "elements")]
 fn f292(m: &mut [u8], mut g: u64, mut l0: u32, mut l1: u64, mut l2: u64, mut l3: u64, mut l4: u64, mut l5: u64, mut l6: u64, mut l7: u64, mut l8: u64) -> u32 {
 let mut l9: u64 = 0;
 let mut l10: u64 = 0;
@@ -63172,6 +63194,7 @@ return l13;
 }
 
 // bech32_encode_elements
+#[cfg(feature = "elements")]
 fn of_bech32_encode_elements(m: &mut [u8], mut g: u64, mut l0: u32, mut l1: u64, mut l2: u64, mut l3: u64, mut l4: u64, mut l5: u64, mut l6: u64, mut l7: u64, mut l8: u64) -> u32 {
 'b1: {
 if (0u32 == 0) { break 'b1; }
@@ -63184,6 +63207,7 @@ return l0;
 }
 
 // rattle::export bech32_encode_elements
+#[cfg(feature = "elements")]
 fn f300(m: &mut [u8], mut g: u64, mut l0: u32, mut l1: u64, mut l2: u64, mut l3: u64, mut l4: u64, mut l5: u64, mut l6: u64, mut l7: u64, mut l8: u64) -> u32 {
 let mut l9: u64 = 0;
 let mut l10: u64 = 0;

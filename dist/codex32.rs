@@ -1,5 +1,5 @@
 //! The functions of codex32.h in Rust without unsafe code, made of the proved library's object for WebAssembly (sha256
-//! 91c6bfcb0576720901364a23ed31d8dae5fbc91c9015413f6e9eaa47b6b7cf6c) by translator/translate; do not edit.
+//! c77a714961a2b2da8781aeccaee2fe2ce64bc8fbea3e2fea2eac14f0c43471d4) by translator/translate; do not edit.
 #![allow(unused, clippy::all, clippy::pedantic, clippy::nursery, clippy::restriction)]
 
 // The machine on which the functions of a library for wasm64 run, without unsafe code. A call makes its memory, one slice: the
@@ -9,6 +9,17 @@
 
 /// The address of the first constant.
 const FIRST: u64 = 1 << 32;
+
+/// The first of some bytes.
+const fn first_of<const N: usize>(bytes: &[u8]) -> [u8; N] {
+    let mut first = [0; N];
+    let mut i = 0;
+    while i < N {
+        first[i] = bytes[i];
+        i += 1;
+    }
+    first
+}
 
 /// What the library does where it does what it is proved never to do.
 #[cold]
@@ -232,7 +243,9 @@ fn take_sizes(m: &[u8], at: u64, sizes: &mut [usize]) {
     }
 }
 
-static CONSTANTS: [u8; 3060] = *b"\
+const CONSTANTS_SIZE: usize = 3060;
+static CONSTANTS: [u8; CONSTANTS_SIZE] = first_of(ALL_CONSTANTS);
+const ALL_CONSTANTS: &[u8; 3060] = b"\
     \xff\xff\xff\xff\xff\xff\xff\xff\xff\xff\xff\xff\xff\xff\xff\xff\xff\xff\xff\xff\xff\xff\xff\xff\xff\xff\xff\xff\xff\xff\xff\xff\
     \xff\xff\xff\xff\xff\xff\xff\xff\xff\xff\xff\xff\xff\xff\xff\xff\x0f\xff\x0a\x11\x15\x14\x1a\x1e\x07\x05\xff\xff\xff\xff\xff\xff\
     \xff\x1d\xff\x18\x0d\x19\x09\x08\x17\xff\x12\x16\x1f\x1b\x13\xff\x01\x00\x03\x10\x0b\x1c\x0c\x0e\x06\x04\x02\xff\xff\xff\xff\xff\

@@ -73,6 +73,7 @@ pub fn bech32_decode(text: &[u8], hrp: &mut [u8], hrp_length: &mut usize, bytes:
     })
 }
 
+#[cfg(feature = "elements")]
 pub fn bech32_decode_strict(checksum: u32, text: &[u8], hrp: &mut [u8], hrp_length: &mut usize, bytes: &mut [u8], bytes_length: &mut usize) -> u32 {
     let hrp = some_mut(hrp);
     let bytes = some_mut(bytes);
@@ -99,6 +100,7 @@ pub fn bech32_decode_strict(checksum: u32, text: &[u8], hrp: &mut [u8], hrp_leng
     })
 }
 
+#[cfg(feature = "elements")]
 pub fn bech32_decode_elements(checksum: u32, text: &[u8], hrp: &mut [u8], hrp_length: &mut usize, elements: &mut [u8], elements_length: &mut usize) -> u32 {
     let hrp = some_mut(hrp);
     let elements = some_mut(elements);
@@ -125,6 +127,7 @@ pub fn bech32_decode_elements(checksum: u32, text: &[u8], hrp: &mut [u8], hrp_le
     })
 }
 
+#[cfg(feature = "elements")]
 pub fn bech32_encode_elements(checksum: u32, hrp: &[u8], elements: &[u8], place: &mut usize, text: &mut [u8], text_length: &mut usize) -> u32 {
     let text = some_mut(text);
     let mut layout = Layout(STACK_BECH32_ENCODE_ELEMENTS as u64);

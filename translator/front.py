@@ -239,7 +239,6 @@ class Module:
                 raise Unknown(f"the function {name}, which the library does not have")
         self.wanted = {by_name[name]: name for name in wanted or sorted(by_name)}
         # Places are known before the text, which names them.
-        self.places, self.constants, self.align = {}, bytearray(), 1
         self.functions = {}
         self.lay_out(self.segments_of(self.reached()))
         for index in sorted(self.reached()):
@@ -263,6 +262,8 @@ class Module:
         return sorted(found)
 
     def lay_out(self, segments):
+        """Puts constants one after another, in this order."""
+        self.places, self.constants, self.align = {}, bytearray(), 1
         for segment in segments:
             align, held = self.object.segments[segment], self.object.held[segment][1]
             self.constants += bytes(-len(self.constants) % align)

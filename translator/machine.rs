@@ -6,6 +6,17 @@
 /// The address of the first constant.
 const FIRST: u64 = 1 << 32;
 
+/// The first of some bytes.
+const fn first_of<const N: usize>(bytes: &[u8]) -> [u8; N] {
+    let mut first = [0; N];
+    let mut i = 0;
+    while i < N {
+        first[i] = bytes[i];
+        i += 1;
+    }
+    first
+}
+
 /// What the library does where it does what it is proved never to do.
 #[cold]
 #[inline(never)]

@@ -155,10 +155,31 @@ def condition_of(features):
     return f"#[cfg({either[0] if len(either) == 1 else 'any(' + ', '.join(either) + ')'})]\n"
 
 
-def bytes_of(data):
-    """Bytes as a literal, in lines."""
+def lay_out(module, features):
+    """Puts constants that are always there first, then those of each condition. Returns where each of these ends."""
+    needed = {}
+    for index in module.functions:
+        for segment in module.segments_of([index]):
+            needed.setdefault(segment, set()).add(features[index][len("#[cfg(") : -len(")]\n")])
+    ends, order = [], []
+    conditions = {it: "" if "" in of else condition_of(of)[len("#[cfg(") : -len(")]\n")] for it, of in needed.items()}
+    for condition in sorted({"", *conditions.values()}):
+        order += [it for it in sorted(conditions) if conditions[it] == condition]
+        module.lay_out(order)
+        ends.append((condition, len(module.constants)))
+    return ends
+
+
+def constants_of(module, ends):
+    """The constants, of which a program has those of its features, and those before them."""
+    data, size = module.constants, ""
+    for condition, end in ends[:0:-1]:
+        size += f"if cfg!({condition}) {{\n    {end}\n}} else "
+    size += f"{{\n    {ends[0][1]}\n}}" if size else str(ends[0][1])
     lines = ("".join(f"\\x{it:02x}" for it in data[at : at + 32]) for at in range(0, len(data), 32))
-    return '*b"\\\n' + "".join(f"    {line}\\\n" for line in lines) + '    "'
+    literal = 'b"\\\n' + "".join(f"    {line}\\\n" for line in lines) + '    "'
+    return (f"const CONSTANTS_SIZE: usize = {size};\nstatic CONSTANTS: [u8; CONSTANTS_SIZE] = first_of(ALL_CONSTANTS);\n"
+            f"const ALL_CONSTANTS: &[u8; {len(data)}] = {literal};\n")
 
 
 def told(name, digest):
@@ -178,7 +199,7 @@ def calls_of(text, wanted):
 def text_of(module, name, made):
     """The whole file, for a module of a crate."""
     features = features_of(module, made.calls)
-    constants = f"static CONSTANTS: [u8; {len(module.constants)}] = {bytes_of(module.constants)};\n"
+    constants = constants_of(module, lay_out(module, features))
     stacks = "".join(f"const STACK_{it.upper()}: usize = {size};\n" for it, size in sorted(made.stacks.items()))
     functions = "\n".join(function_of(it, features[index]) for index, it in module.functions.items())
     calls = calls_of(made.calls, set(module.wanted.values()) if made.is_part else None)

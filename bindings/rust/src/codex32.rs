@@ -62,7 +62,9 @@ pub use header::{Header, Identifier, Threshold};
 pub use refusal::Refusal;
 pub use secret::{SecretBytes, SecretText};
 pub use share::Share;
-pub use split::{random_length, recover, split, split_with, SplitError, MAX_SPLIT};
+pub use split::{random_length, recover, split_with, MAX_SPLIT};
+#[cfg(feature = "std")]
+pub use split::{split, SplitError};
 
 use crate::declared;
 use crate::prelude::*;

@@ -101,7 +101,7 @@ mod decode;
 pub mod descriptor;
 #[cfg(feature = "correct")]
 mod edits;
-#[cfg(feature = "alloc")]
+#[cfg(feature = "elements")]
 mod elements;
 mod encode;
 mod error;
@@ -129,7 +129,7 @@ pub use checksum::{Bech32, Bech32m, Checksum, LongBech32, LongBech32m, NoChecksu
 pub use correction::{correct, nearest, Change, Correction};
 #[cfg(feature = "correct")]
 pub use edits::{near_edits, Edit, NearEdit};
-#[cfg(feature = "alloc")]
+#[cfg(feature = "elements")]
 pub use elements::{decode_elements, decode_strict, encode_elements, TextError};
 pub use fault::{fault, Fault};
 pub use fe32::{Fe32, ALPHABET};

@@ -388,6 +388,7 @@ pub fn codex32_propose_long(
 
 /// Puts the human-readable part and the bytes of a text that is the only one of them into buffers, and
 /// returns their lengths.
+#[cfg(feature = "elements")]
 pub fn decode_strict(
     checksum: u32,
     text: &[u8],
@@ -407,6 +408,7 @@ pub fn decode_strict(
 }
 
 /// Puts the human-readable part and the elements of a text into buffers, and returns their lengths.
+#[cfg(feature = "elements")]
 pub fn decode_elements(
     checksum: u32,
     text: &[u8],
@@ -426,6 +428,7 @@ pub fn decode_elements(
 }
 
 /// Puts the text of a human-readable part and elements into a buffer, and returns 0 and its length.
+#[cfg(feature = "elements")]
 pub fn encode_elements(
     checksum: u32,
     hrp: &[u8],

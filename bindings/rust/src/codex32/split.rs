@@ -4,6 +4,7 @@ use super::secret::{SecretBytes, SecretText};
 use super::{joined, Identifier, Refusal, Threshold, MAX_BYTES, MAX_SHARES, MAX_TEXT_LENGTH};
 use crate::prelude::*;
 use crate::{raw, Fe32};
+#[cfg(feature = "std")]
 use core::fmt;
 #[cfg(feature = "std")]
 use std::error::Error;
@@ -14,6 +15,7 @@ use std::io;
 pub const MAX_SPLIT: usize = MAX_SHARES - 1;
 
 /// Why [`split`] makes no shares.
+#[cfg(feature = "std")]
 #[derive(Debug)]
 #[non_exhaustive]
 pub enum SplitError {
@@ -23,12 +25,14 @@ pub enum SplitError {
     Random(io::Error),
 }
 
+#[cfg(feature = "std")]
 impl From<Refusal> for SplitError {
     fn from(refusal: Refusal) -> SplitError {
         SplitError::Refused(refusal)
     }
 }
 
+#[cfg(feature = "std")]
 impl fmt::Display for SplitError {
     fn fmt(&self, f: &mut fmt::Formatter<'_>) -> fmt::Result {
         match self {
@@ -87,6 +91,7 @@ impl Error for SplitError {
 /// The first of: [`Refusal::BadShareIndex`] if the threshold is 0; [`Refusal::BadSize`] of another number of
 /// bytes; [`Refusal::BadCount`] of fewer shares than the threshold, or more than 31; [`SplitError::Random`];
 /// [`Refusal::EqualRandom`] if the system's random bytes are all equal.
+#[cfg(feature = "std")]
 pub fn split(
     secret: &[u8],
     threshold: Threshold,
@@ -183,6 +188,7 @@ pub fn recover<T: AsRef<str>>(shares: &[T]) -> Result<SecretBytes, Refusal> {
 
 // Splits a secret by random bytes that are drawn, once all else is in order: that the library says of no random
 // bytes.
+#[cfg(feature = "std")]
 fn split_by(
     secret: &[u8],
     threshold: Threshold,
@@ -206,6 +212,7 @@ fn split_by(
 }
 
 // An identifier at random, the lowest five bits of four bytes.
+#[cfg(feature = "std")]
 fn drawn(draw: impl Fn(&mut [u8]) -> io::Result<()>) -> io::Result<Identifier> {
     let mut bytes = [0; 4];
     draw(&mut bytes)?;
@@ -215,7 +222,7 @@ fn drawn(draw: impl Fn(&mut [u8]) -> io::Result<()>) -> io::Result<Identifier> {
 }
 
 // Fills a buffer with random bytes of the operating system.
-#[cfg(unix)]
+#[cfg(all(feature = "std", unix))]
 fn draw(buffer: &mut [u8]) -> io::Result<()> {
     use std::fs::File;
     use std::io::Read;
@@ -226,12 +233,12 @@ fn draw(buffer: &mut [u8]) -> io::Result<()> {
     File::open("/dev/urandom")?.read_exact(buffer)
 }
 
-#[cfg(not(unix))]
+#[cfg(all(feature = "std", not(unix)))]
 fn draw(_: &mut [u8]) -> io::Result<()> {
     Err(io::ErrorKind::Unsupported.into())
 }
 
-#[cfg(test)]
+#[cfg(all(test, feature = "std"))]
 mod tests {
     use super::*;
     use core::cell::Cell;
