@@ -2,6 +2,7 @@
 import re
 
 from front import BITS
+from printers.outline import Outline
 from printers.rust import COMPARED, names_in
 from printers.values import CONSTANT, STACK, Structured
 from wasm import I32, I64
@@ -108,16 +109,16 @@ class Java:
         return f"return {text};" if text else "return;"
 
     def label(self, number):
-        return f"b{number}: "
+        return f"at{number}: "
 
     def loop(self, number):
-        return f"b{number}: while (true) {{"
+        return f"at{number}: while (true) {{"
 
     def again(self, number):
-        return f"continue b{number};"
+        return f"continue at{number};"
 
     def out_of(self, number):
-        return f"break b{number};"
+        return f"break at{number};"
 
     def when(self, condition, lines):
         return f"if ({condition}) {{ {' '.join(lines)} }}"
@@ -130,16 +131,31 @@ class Java:
         return [f"switch ({text}) {{", *rows, "default: " + " ".join(default), "}"]
 
 
+class Writer(Structured):
+    """A function of which no method is too long."""
+
+    def __init__(self, function):
+        kinds = {f"l{at}": TYPES[kind] for at, kind in enumerate(function.locals)}
+        result = TYPES[function.results[0]] if function.results else "void"
+        self.outline = Outline(function.module.name_of(function.index), kinds, result)
+        super().__init__(function, Java())
+        self.lines = self.outline.shorten(self.lines, self.reachable and not function.results)
+
+    def shortened(self, lines):
+        return self.outline.shorten(lines, self.reachable)
+
+
 def function_of(function):
-    """The text of a function. Locals that nothing names are left out."""
-    writer = Structured(function, Java())
+    """The text of a function, after the methods that it is cut into. Locals that nothing names are left out."""
+    writer = Writer(function)
     code = "\n".join(writer.lines)
     named = names_in(code, r"\bl\d+\b")
     own = [f"{TYPES[kind]} l{at} = 0;" for at, kind in enumerate(function.locals) if at >= len(function.parameters) and f"l{at}" in named]
+    own += [f"long[] s = new long[{writer.outline.most}];"] if writer.outline.methods else []
     given = "".join(f", {TYPES[kind]} l{at}" for at, kind in enumerate(function.parameters))
     result = TYPES[function.results[0]] if function.results else "void"
     head = f"// {function.name()}\nprivate static {result} {function.module.name_of(function.index)}(byte[] m, long g{given}) {{\n"
-    return head + "\n".join([*own, code]) + "\n}\n"
+    return "\n".join([*writer.outline.methods, head + "\n".join([*own, code]) + "\n}\n"])
 
 
 def calls_of(text, wanted):

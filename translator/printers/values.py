@@ -401,6 +401,10 @@ class Structured(Blocks):
         self.emit(self.language.let(f"t{self.names}", kind, text))
         return f"t{self.names}"
 
+    def shortened(self, lines):
+        """The lines of a block, of which a language may put some elsewhere."""
+        return lines
+
     def begin(self, instruction):
         block = self.begun(instruction)
         if block.name:
@@ -410,14 +414,14 @@ class Structured(Blocks):
     def turn(self):
         block = self.blocks[-1]
         self.give(block)
-        block.has_else, block.then, block.then_goes_on = True, self.lines, self.reachable
+        block.has_else, block.then, block.then_goes_on = True, self.shortened(self.lines), self.reachable
         self.lines, self.reachable = [], True
 
     def end(self):
         block = self.blocks[-1]
         self.give(block)
         self.blocks.pop()
-        inner, self.lines = self.lines, block.outer
+        inner, self.lines = self.shortened(self.lines), block.outer
         if block.kind == "if":
             self.end_if(block, inner)
         elif block.kind == "loop" and block.is_used:

@@ -115,11 +115,11 @@ JAVA = """
 LANGUAGES = {
     "rust": ("rs", RUST, '("{0}", of_{0})', "{0}", ["rustc --edition 2021 -C opt-level=1 -o {1}/program {0}", "{1}/program"]),
     "go": ("go", GO, '{{"{0}", of_{0}}}', "{0}", ["go build -o {1}/program {0}", "{1}/program"]),
-    "java": ("java", JAVA, "Operations::of_{0}", "0x{0:x}L", ["javac --release 11 -d {1} {0}", "java -cp {1} bech32proved.Operations"]),
+    "java": ("java", JAVA, "@CLASS@::of_{0}", "0x{0:x}L", ["javac --release 11 -d {1} {0}", "java -cp {1} bech32proved.{2}"]),
 }
 
 
-def calls(language, functions, accesses):
+def calls(language, stem, functions, accesses):
     """The program, in the place of the calls of a library."""
     _, text, item, number, _ = LANGUAGES[language]
     accesses = [it for it in accesses if it not in NO_TRAPS]
@@ -127,7 +127,7 @@ def calls(language, functions, accesses):
              "ACCESSES": [item.format(it) for it in accesses], "NAMES": [f'"{it}"' for it in functions],
              "ACCESS_NAMES": [f'"{it}"' for it in accesses]}
     for name, items in lists.items():
-        text = text.replace(f"@{name}@", ", ".join(items))
+        text = text.replace(f"@{name}@", ", ".join(items).replace("@CLASS@", stem.capitalize()))
     return text
 
 
@@ -143,7 +143,7 @@ def ran(language, work, file):
     if language == "go":
         text = path.read_text().replace(f"package {path.stem}", "package main").replace("import (", 'import (\n\t"fmt"', 1)
         path.write_text(text)
-    *build, run = [it.format(path, work) for it in LANGUAGES[language][4]]
+    *build, run = [it.format(path, work, path.stem) for it in LANGUAGES[language][4]]
     for words in build:
         subprocess.run(words.split(), check=True, cwd=work)
     return subprocess.run(run.split(), stdout=subprocess.PIPE, text=True, cwd=work)

@@ -1,6 +1,6 @@
-//! Bech32 ([BIP-173]) and Bech32m ([BIP-350]): texts and segwit addresses, written and read by the
-//! static library `bech32_c`, each function of which is proved to do what its contract says of
-//! every input. Strings and shares of a secret ([BIP-93]) stand in [`codex32`], over `codex32_c`.
+//! Bech32 ([BIP-173]) and Bech32m ([BIP-350]): texts and segwit addresses, written and read by a
+//! library of which each function is proved to do what its contract says of every input. Strings and
+//! shares of a secret ([BIP-93]) are in [`codex32`].
 //!
 //! The names are those of the Rust crate bech32 0.12.0: a program that was written for it runs over this
 //! one under that crate's name, by `bech32 = { package = "bech32_proved", .. }` in its manifest. The
@@ -8,9 +8,10 @@
 //! length at fault, [`Refusal`] has the number of any of them in `include/bech32.h`, and [`fault()`] says
 //! for people what is wrong where in a text.
 //!
-//! What is proved are the libraries. This crate turns slices into the pointers and lengths that
-//! they take, in its one module with `unsafe` code, and what comes back into values; it is
-//! tested and not proved.
+//! The library is proved, and made into Rust without `unsafe` code by a program that is tested
+//! (`translator/translate`): if that is wrong, a call may give a wrong answer or panic, and it cannot
+//! read or write memory that is not its own. By the feature `c` the library is C. The code of this crate
+//! around it is tested and not proved.
 //!
 //! # Encoding
 //!

@@ -3,7 +3,9 @@
 use super::secret::{SecretBytes, SecretText};
 use super::{joined, Identifier, Refusal, Threshold, MAX_BYTES, MAX_SHARES, MAX_TEXT_LENGTH};
 use crate::prelude::*;
-use crate::{raw, Fe32};
+use crate::raw;
+#[cfg(feature = "std")]
+use crate::Fe32;
 #[cfg(feature = "std")]
 use core::fmt;
 #[cfg(feature = "std")]
