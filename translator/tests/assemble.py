@@ -248,6 +248,8 @@ def of_memory():
             "i64.const:8 i64.shr_u i64.const:31 i64.and memory.fill")
     copy = ("local.get:2 local.get:{0} i64.const:15 i64.and i64.add local.get:2 local.get:{1} i64.const:4 i64.shr_u "
             "i64.const:15 i64.and i64.add local.get:0 i64.const:31 i64.and memory.copy")
+    found["memory_copy_constants"] = frame(96, f"{spread} local.get:2 local.get:0 i64.const:15 i64.and i64.add place:WORDS+4 local.get:1 "
+                                               f"i64.const:15 i64.and i64.add i64.const:9 memory.copy {total}")
     found["memory_fill"] = frame(96, f"{spread} {fill} {total}")
     found["memory_copy"] = frame(96, f"{spread} {copy.format(0, 1)} {total}")
     found["memory_copy_back"] = frame(96, f"{spread} {copy.format(1, 0)} {total}")
@@ -293,6 +295,8 @@ def of_control():
                    "i32.const:-2147483648 i64.extend_i32_u i64.add i32.const:-1 i64.extend_i32_s i64.xor",
         "numbers_alone": "i64.const:3 i64.const:127 i64.shl i64.const:-5 i64.const:7 i64.mul i64.add local.get:0 i64.xor i32.const:-1 "
                          "i32.const:2147483647 i32.sub i64.extend_i32_s i64.add i64.const:65535 i64.extend16_s local.get:1 i64.and i64.xor",
+        "numbers_compared": "local.get:0 i64.const:-5 i64.lt_s local.get:1 i32.wrap_i64 i32.const:-7 i32.gt_s i32.const:2 i32.mul i32.add "
+                            "i64.extend_i32_u",
         "unreachable": f"{low} if unreachable end local.get:1",
         "behind": "block:i64 local.get:1 br:0 i64.const:3 i64.mul block br:0 end i32.wrap_i64 if unreachable else nop end i64.const:2 end",
         "call": "local.get:1 i64.const:3 i64.mul local.get:0 call:i64_sub local.get:0 call:loop",
