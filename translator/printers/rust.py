@@ -1,7 +1,7 @@
 """Writes the functions of a library as Rust without unsafe code, over the machine of machine.rs."""
 import re
 
-from front import BITS, LOADS  # noqa: F401
+from front import BITS
 from printers.values import Structured
 from wasm import I32, I64
 
