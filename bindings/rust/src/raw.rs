@@ -26,8 +26,9 @@ pub fn wipe<T: Copy>(items: &mut [T], zero: T) {
 }
 
 // More of the stack than any call takes, of which the memory that it makes there is wiped by the call itself.
+// A compiler that optimizes nothing gives each value of a call its own place.
 #[cfg(any(feature = "codex32", feature = "descriptor"))]
-const STACK: usize = 1 << 15;
+const STACK: usize = if cfg!(debug_assertions) { 1 << 18 } else { 1 << 15 };
 
 // Puts zeros over the stack below the function that calls it, where a call left copies of a secret. The functions here
 // call it behind the library, so that both begin at the same place.
