@@ -36,8 +36,8 @@ const modulesSource = () => filled(read('src', 'modules.js'), {
 
 // The files that a page's script is made of, each behind those that it imports.
 const LIBRARY = ['declared', 'refusals', 'reasons', 'instance', 'lists', 'calls', 'descriptors', 'library', 'modules'].map((name) => `src/${name}.js`);
-const SAYING = ['words', 'sentences', 'tried', 'links', 'typed', 'parts', 'others', 'beginnings', 'pair', 'chance', 'reading', 'kinds',
-  'saying', 'codex32', 'offers', 'texts', 'liquid', 'described', 'strings', 'shares', 'answer', 'shown', 'asking', 'fields'];
+const SAYING = ['words', 'sentences', 'tried', 'links', 'typed', 'parts', 'forms', 'others', 'beginnings', 'pair', 'chance', 'reading', 'kinds',
+  'saying', 'codex32', 'offers', 'texts', 'liquid', 'lightning', 'described', 'strings', 'shares', 'answer', 'shown', 'asking', 'fields'];
 const PAGES = {
   'index.html': { template: 'page.html', styles: ['page.css'], scripts: [...SAYING, 'copy', 'page'] },
   'share.html': {
