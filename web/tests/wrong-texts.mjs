@@ -157,7 +157,7 @@ export const WRONG = [
   ['a secret of Core Lightning', put(LIGHTNING, [10, 'q'], [30, '?'], [72, '?']), /Character 11 should be l, not q\. The unreadable characters are restored: 31 is g and 73 is n\.[^]*whoever sees this string has the secret[^]*With these changes it is a valid codex32 string\.[^]*Its beginning “cl” is that of Core Lightning/, LIGHTNING],
   ['a secret of Core Lightning in upper case', put(LIGHTNING, [64, 'q'], [73, 'q']).toUpperCase(), /Character 65 should be J, not Q; character 74 should be S, not Q\./, LIGHTNING.toUpperCase()],
   ['the front of one', LIGHTNING.slice(0, 72), /^This begins like a Core Lightning secret: 72 characters so far, of 74\.[^]*whoever sees this string has the secret[^]*If this is all of it, two characters are missing\./, null],
-  ['one that is too long', `${LIGHTNING}q`, /^This string is wrong; do not use it\.[^]*whoever sees this string has the secret[^]*It has 75 characters, and a Core Lightning secret has 74\. One character may be too many\./, null],
+  ['one that is too long', `${LIGHTNING}q`, /^This string is wrong; do not use it\.[^]*whoever sees this string has the secret[^]*It has 75 characters, and a Core Lightning secret has 74\.[^]*One character may be too many\./, null],
   ['one that nothing mends', put(LIGHTNING, ...[10, 20, 30, 40, 50].map((at) => [at, 'q'])), /^This string is wrong; do not use it\.[^]*No correction was found\.[^]*As typed, the codex32 checksum is wrong\./, null],
 
   // Known kinds with one wrong character.
