@@ -364,6 +364,7 @@ test('a text of no known kind, or without the shape of one, is not called wrong'
 });
 
 test('what is typed so far is not called wrong', () => {
+  assert.equal(said('bc1qw').verdict, 'Five characters so far. An address of version 0 has 42 or 62.');
   for (const whole of [V0, TAPROOT, 'tb1qw508d6qejxtdg4y5r3zarvary0c5xw7kxpjzsx', 'ltc1qw508d6qejxtdg4y5r3zarvary0c5xw7kgmn4n9'.slice(0, 9), SILENT]) {
     for (let size = 1; size < whole.length - 1; size++) assert.notEqual(said(whole.slice(0, size)).tone, 'wrong', whole.slice(0, size));
   }
