@@ -12,7 +12,7 @@ const base58 = (start, ...sizes) => new RegExp(`^${BOTH_CASES}(?:${start})(?:${s
 
 const EXTENDED = '[xyztuv]prv';
 
-// Keys of Bitcoin, Dogecoin, Litecoin and Dash, and those behind a password (BIP-38).
+// Keys of Bitcoin, Dogecoin, Litecoin and Dash, and those protected by a password (BIP-38).
 const PRIVATE_KEY = `(?:[KLcQTX]${B58}{50,51}|(?:5[HJK]|6[JKLuvw]|7[qrs]|9[123])${B58}{48,50}|6P${B58}{56})`;
 
 /** The secrets that are told within a longer text too: the pattern and the name of each. */

@@ -74,14 +74,14 @@ export function decodeElements(checksum: AnyChecksum, text: string): { hrp: stri
 export function encodeElements(checksum: AnyChecksum, hrp: string, elements: Uint8Array): string;
 
 /**
- * The elements of bytes, as `encodeElements` takes them: their bits, five at a time, the highest first, with zeros behind the last.
+ * The elements of bytes, as `encodeElements` takes them: their bits, five at a time, the highest first, with zeros after the last.
  * Any number of bytes is taken. It has the name that other packages give it.
  */
 export function toWords(bytes: Uint8Array): Uint8Array;
 
 /**
- * The bytes of elements, as `decodeElements` returns them, of any number: a Uint8Array, or a list of numbers. Bits behind the
- * last whole byte that are more than four, or not all zero, are refused. Throws `Refused`, with the `place` of the element.
+ * The bytes of elements, as `decodeElements` returns them, of any number: a Uint8Array, or a list of numbers. Bits after the
+ * last whole byte are refused if they are more than four, or not all zero. Throws `Refused`, with the `place` of the element.
  */
 export function fromWords(elements: Uint8Array | Iterable<number>): Uint8Array;
 

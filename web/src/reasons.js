@@ -493,8 +493,8 @@ const ofPayloadEncoding = (calls, number, threshold, identifier, shareIndex, pay
 const ofWords = (number, words) => {
   const place = words.length - 1, bits = (5 * words.length) % 8;
   switch (number) {
-    case NUMBERS.PADDING_TOO_LONG: return { place, sentence: `The last element is one too many: ${bits} bits stand behind the last whole byte, and at most four may.` };
-    case NUMBERS.PADDING_NOT_ZERO: return { place, sentence: 'The last element has bits behind the last whole byte that are not zero.' };
+    case NUMBERS.PADDING_TOO_LONG: return { place, sentence: `The last element is one too many: ${bits} bits follow the last whole byte, and at most four may.` };
+    case NUMBERS.PADDING_NOT_ZERO: return { place, sentence: 'The last element has bits after the last whole byte that are not zero.' };
     default: return null;
   }
 };

@@ -270,7 +270,7 @@ def convertbits(data: Union[Octets, Iterable[int]], frombits: int, tobits: int, 
         >>> convertbits([31, 28, 0, 0], 5, 8, False)
         [255, 0]
 
-    With `pad`, zeros are put behind the last bits if these do not fill a group. Without it the bits that are left over are
+    With `pad`, zeros follow the last bits if these do not fill a group. Without it the bits that are left over are
     dropped; returns None if these fill a group of the width that was given, or are not all zero. Returns None too if a
     number in `data` is negative or has more than `frombits` bits.
 
@@ -297,7 +297,7 @@ def _to_elements(data: List[int], pad: bool) -> Optional[List[int]]:
 
 
 def _to_bytes(elements: List[int], pad: bool) -> Optional[List[int]]:
-    # Elements of zeros behind the others, until they fill whole bytes and no element is left over.
+    # Zero elements follow the others, until all of them fill whole bytes.
     size, rest = len(elements), 5 * len(elements) % 8
     if not pad and rest >= 5:
         return None
