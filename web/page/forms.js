@@ -59,7 +59,7 @@ const FORMS = [
   ['an Ethereum address or another number in base 16', /^0x/i, OTHER.hex],
   ['a public key', /^(?:0[23][0-9a-f]{64}|04[0-9a-f]{128})(?:@.*)?$/i, OTHER.unchecked],
   ['a partially signed transaction (PSBT)', /^(?:cHNidP|70736274ff)/i, OTHER.unchecked],
-  ['the number of a transaction, or another of 32 bytes, in base 16', /^[0-9a-f]{64}(?::[0-9]+)?$/i, OTHER.mayBeKey],
+  ['a transaction id, or another number of 32 bytes in base 16', /^[0-9a-f]{64}(?::[0-9]+)?$/i, OTHER.mayBeKey],
   ['a number in base 16', /^(?:[0-9a-f]{2}){16,}$/i, OTHER.unchecked],
   ['an identifier in base 16 (a UUID)', /^[0-9a-f]{8}(?:-[0-9a-f]{4}){3}-[0-9a-f]{12}$/i, OTHER.unchecked],
   ['an e-mail address, or a Lightning address, which has the same form', /^[^\s@]+@[^\s@]+\.[^\s@]+$/, OTHER.unchecked],

@@ -220,8 +220,8 @@ export const OTHER_KINDS = [
   ['private keys of Dash', checked([204], 32), WARNING, looks('a private key')], ['uncompressed private keys', checked([128], 32), WARNING, looks('a private key')], ['private keys of the test network', checked([239], 32), WARNING, looks('a private key')],
   ['mini keys of Casascius coins', (below) => miniKey(below, from(below, [22, 26, 30])), WARNING, looks('the private key of a Casascius coin')],
 
-  ['numbers of transactions', (below) => hex(below, 32), OTHER, looks('the number of a transaction')], ['outputs of transactions', (below) => `${hex(below, 32)}:${below(20)}`, OTHER, looks('the number of a transaction')],
-  ['numbers of transactions in upper case', (below) => hex(below, 32).toUpperCase(), OTHER, looks('the number of a transaction')], ['numbers of transactions that begin like an address', (below) => `bc1${hex(below, 32).slice(3)}`, OTHER, looks('the number of a transaction')],
+  ['numbers of transactions', (below) => hex(below, 32), OTHER, looks('a transaction id')], ['outputs of transactions', (below) => `${hex(below, 32)}:${below(20)}`, OTHER, looks('a transaction id')],
+  ['numbers of transactions in upper case', (below) => hex(below, 32).toUpperCase(), OTHER, looks('a transaction id')], ['numbers of transactions that begin like an address', (below) => `bc1${hex(below, 32).slice(3)}`, OTHER, looks('a transaction id')],
   ['public keys', (below) => `0${2 + below(2)}${hex(below, 32)}`, OTHER, looks('a public key')], ['uncompressed public keys', (below) => `04${hex(below, 64)}`, OTHER, looks('a public key')],
   ['Lightning nodes', (below) => `0${2 + below(2)}${hex(below, 32)}@${below(256)}.${below(256)}.1.1:9735`, OTHER, looks('a public key')],
   ['PSBTs', (below) => psbt(80, 900)(below).toString('base64'), OTHER, looks('a partially signed transaction')], ['PSBTs in base 16', (below) => psbt(80, 900)(below).toString('hex'), OTHER, looks('a partially signed transaction')],
