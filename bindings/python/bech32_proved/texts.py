@@ -278,9 +278,10 @@ def convertbits(data: Union[Octets, Iterable[int]], frombits: int, tobits: int, 
     """
     if (frombits, tobits) not in ((8, 5), (5, 8)):
         raise ValueError(f"bits are regrouped from 8 to 5 or from 5 to 8, not from {frombits} to {tobits}")
-    is_bytes = isinstance(data, (bytes, bytearray, memoryview))
-    numbers = list(bytes(octets(data))) if is_bytes else listed(data, "data must be bytes or a list of numbers, not")
-    numbers = [whole(it, "a number") for it in numbers]
+    if isinstance(data, (bytes, bytearray, memoryview)):
+        numbers = list(bytes(data))
+    else:
+        numbers = [whole(it, "a number") for it in listed(data, "data must be bytes or a list of numbers, not")]
     if any(it >> frombits for it in numbers):
         return None
     return _to_elements(numbers, pad) if frombits == 8 else _to_bytes(numbers, pad)
