@@ -27,17 +27,19 @@ const filled = (text, values) => {
 };
 
 const base64 = (name) => wasm(name).toString('base64');
-const modulesSource = () => filled(read('src', 'modules.js'), {
-  BECH32_C: base64('bech32_c'), CODEX32_C: base64('codex32_c'),
-  BECH32_C_LOWERED: base64('bech32_c.lowered'), CODEX32_C_LOWERED: base64('codex32_c.lowered'),
+
+// The sources of the modules, with both forms of each put in.
+const moduleSource = (name) => filled(read('src', `${name}_module.js`), {
+  [`${name.toUpperCase()}_C`]: base64(`${name}_c`), [`${name.toUpperCase()}_C_LOWERED`]: base64(`${name}_c.lowered`),
 });
+const MODULE_FILES = ['bech32', 'codex32'];
 
 // ---- the pages
 
 // The files that a page's script is made of, each behind those that it imports.
-const LIBRARY = ['declared', 'refusals', 'reasons', 'instance', 'lists', 'calls', 'descriptors', 'library', 'modules'].map((name) => `src/${name}.js`);
-const SAYING = ['words', 'sentences', 'tried', 'links', 'typed', 'parts', 'others', 'beginnings', 'pair', 'chance', 'reading', 'kinds',
-  'saying', 'codex32', 'offers', 'texts', 'liquid', 'described', 'strings', 'shares', 'answer', 'shown', 'asking', 'fields'];
+const LIBRARY = ['declared', 'refusals', 'reasons', 'instance', 'lists', 'calls', 'descriptors', 'library', 'compiling', 'bech32_module', 'codex32_module', 'modules'].map((name) => `src/${name}.js`);
+const SAYING = ['words', 'sentences', 'tried', 'links', 'typed', 'parts', 'forms', 'others', 'beginnings', 'pair', 'chance', 'reading', 'kinds',
+  'saying', 'codex32', 'offers', 'texts', 'liquid', 'lightning', 'described', 'strings', 'shares', 'answer', 'shown', 'asking', 'fields'];
 const PAGES = {
   'index.html': { template: 'page.html', styles: ['page.css'], scripts: [...SAYING, 'copy', 'page'] },
   'share.html': {
@@ -74,10 +76,15 @@ const asFunction = (file, source, known) => {
   return `const ${variable(file)} = (() => {\n${body}return { ${exported.join(', ')} };\n})();\n`;
 };
 
+const sourceOf = (file) => {
+  const name = MODULE_FILES.find((it) => file === `src/${it}_module.js`);
+  return name ? moduleSource(name) : read(file);
+};
+
 const script = (names) => {
   const files = [...LIBRARY, ...names.map((name) => `page/${name}.js`)];
   const known = new Map();
-  const parts = files.map((file) => asFunction(file, file === 'src/modules.js' ? modulesSource() : read(file), known));
+  const parts = files.map((file) => asFunction(file, sourceOf(file), known));
   const text = `'use strict';\n{\n${parts.join('')}}\n`;
   if (/<\/script|<!--/i.test(text)) throw new Error('the script has words that end a script');
   return text;
@@ -108,9 +115,11 @@ const manifest = () => {
 };
 
 const packageFiles = () => {
-  const files = { 'modules.js': modulesSource(), 'package.json': manifest(), 'README.md': read('README.md') };
-  const own = ['index', 'declared', 'library', 'calls', 'lists', 'descriptors', 'columns', 'instance', 'reasons', 'refusals'].map((name) => `${name}.js`);
-  for (const name of [...own, 'index.d.ts', 'refusals.d.ts']) files[name] = read('src', name);
+  const files = { 'package.json': manifest(), 'README.md': read('README.md') };
+  for (const name of MODULE_FILES) files[`${name}_module.js`] = moduleSource(name);
+  const own = ['index', 'bech32', 'started', 'declared', 'library', 'calls', 'lists', 'descriptors', 'columns', 'instance', 'reasons', 'refusals',
+    'compiling', 'modules'].map((name) => `${name}.js`);
+  for (const name of [...own, 'index.d.ts', 'bech32.d.ts', 'refusals.d.ts']) files[name] = read('src', name);
   const licence = path.join(HERE, '..', 'LICENSE');
   if (fs.existsSync(licence)) files.LICENSE = fs.readFileSync(licence, 'utf8');
   return files;

@@ -25,7 +25,10 @@ TOP = HERE.parent.parent
 NAME = "bech32_proved"
 # The libraries, with what is compiled beside each: the functions of its header that the package calls, and memory of columns.
 LIBRARIES = {"bech32": ["arrow"], "codex32": ["wipe"]}
+# How long it takes to compile each, in processor time: pip says nothing of it but with -v.
+DURATIONS = {"bech32": "about a minute", "codex32": "some 10 seconds"}
 LINUX = "Classifier: Operating System :: POSIX :: Linux\n"
+# The project has no address on the network, so no Project-URL stands here.
 METADATA = f"""Metadata-Version: 2.1
 Name: bech32-proved
 Version: {{version}}
@@ -58,6 +61,10 @@ def _is_package():
 
 def licence():
     return (HERE if _is_package() else TOP).joinpath("LICENSE").read_bytes()
+
+
+def _say(sentence):
+    print(f"{NAME}: {sentence}", file=sys.stderr, flush=True)
 
 
 def _run(words):
@@ -97,6 +104,7 @@ def _compiled(name, made):
     options += [] if sys.platform == "win32" else ["-fPIC"]
     beside = HERE / "c" if _is_package() else HERE
     sources = [str(source / f"{name}.c"), *(str(beside / f"{it}.c") for it in LIBRARIES[name])]
+    _say(f"compiling {name}.c, which takes {DURATIONS[name]}")
     _run([*_compiler(), "-std=c99", "-O2", *options, "-I", str(source), "-o", str(made), *sources])
 
 
@@ -125,6 +133,12 @@ def sources():
     return [*sorted((HERE / NAME).glob("*.py")), HERE / NAME / "py.typed"]
 
 
+def tags(tag):
+    """The tags that one of a file's name stands for: it may name several platforms, with a dot between two."""
+    python, abi, platforms = tag.split("-")
+    return [f"{python}-{abi}-{it}" for it in platforms.split(".")]
+
+
 def write_wheel(folder, tag, shared, about):
     """Writes a wheel that has the libraries that `shared` gives by their names, and returns the name of its file."""
     info = f"{NAME}-{version()}.dist-info"
@@ -132,7 +146,8 @@ def write_wheel(folder, tag, shared, about):
     for name in LIBRARIES:
         held[f"{NAME}/lib{name}_c.so"] = shared(name)
     held[f"{info}/METADATA"] = about
-    held[f"{info}/WHEEL"] = f"Wheel-Version: 1.0\nGenerator: {NAME}\nRoot-Is-Purelib: false\nTag: {tag}\n".encode()
+    held[f"{info}/WHEEL"] = f"Wheel-Version: 1.0\nGenerator: {NAME}\nRoot-Is-Purelib: false\n".encode()
+    held[f"{info}/WHEEL"] += "".join(f"Tag: {it}\n" for it in tags(tag)).encode()
     held[f"{info}/LICENSE"] = licence()
     rows = [f"{path},{_digest(data)},{len(data)}\n" for path, data in held.items()]
     held[f"{info}/RECORD"] = "".join([*rows, f"{info}/RECORD,,\n"]).encode()

@@ -4,9 +4,13 @@ import { asciiLower } from '../src/reasons.js';
 import { CODEX32, isBegun } from './beginnings.js';
 import { ofCodex32, partsOf } from './codex32.js';
 import { checksumsFor } from './kinds.js';
+import { ofLightning } from './lightning.js';
 import { isConfidential, ofLiquid } from './liquid.js';
 import { ofDescriptor } from './described.js';
-import { isScript, otherKind, secretWithin, seedWords, severalTexts, untested } from './others.js';
+import { otherKind } from './forms.js';
+import { isScript, secretWithin, seedWords, severalTexts, untested } from './others.js';
+import { isShaped } from './reading.js';
+import { foreign } from './saying.js';
 import { LINK, OTHER } from './sentences.js';
 import { ofStrings } from './shares.js';
 import { stringsIn } from './strings.js';
@@ -17,7 +21,7 @@ import { cleaned } from './typed.js';
 // Longer texts are not read at all.
 const MOST = 8192;
 
-const tooLong = ({ length }) => ({ tone: 'wrong', verdict: OTHER.tooLong(length), notes: [], said: [] });
+const tooLong = ({ length }) => ({ tone: 'other', ...OTHER.tooLong(length), notes: [] });
 
 /** Whether a checksum of Bech32 or Bech32m accepts a text. */
 export const isRight = (library) => (text) =>
@@ -27,12 +31,21 @@ const BEGUN = { tone: 'open', verdict: OTHER.begun, said: [] };
 
 const ofOther = (library, text) => (isScript(text) ? ofDescriptor(library, text) : otherKind(text));
 
-/** What is said of one text. What it is is found before anything is mended. */
-export const ofText = (library, text) => {
-  if (isBegun(text)) return BEGUN;
+// What a text is by its beginning is found before anything is mended.
+const ofBegun = (library, text) => {
   if (asciiLower(text).startsWith(CODEX32)) return ofCodex32(library, text);
   if (isConfidential(text)) return ofLiquid(library, text);
-  return untested(text) ?? ofRightText(library, text) ?? ofOther(library, text) ?? ofWrongText(library, text);
+  return untested(text) ?? ofRightText(library, text) ?? ofLightning(library, text) ?? ofOther(library, text) ?? ofWrongText(library, text);
+};
+
+// What is said of a text that begins like one of a known kind, and has not the shape of one. The warning of a secret stays.
+const ofForeign = (text, { warnings }) => otherKind(text) ?? { ...foreign(), ...(warnings && { warnings }) };
+
+/** What is said of one text. Only one that begins like those of a known kind, and has their shape, is called wrong. */
+export const ofText = (library, text) => {
+  if (isBegun(text)) return BEGUN;
+  const found = ofBegun(library, text), isJudged = !['wrong', 'open'].includes(found.tone) || isScript(text) || isShaped(text);
+  return isJudged ? found : ofForeign(text, found);
 };
 
 const ofSeveral = (library, typed) => {

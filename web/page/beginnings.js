@@ -8,16 +8,19 @@ export const ADDRESS_PARTS = ['bc', 'tb', 'bcrt'];
 /** What codex32 strings begin with, in lower case. */
 export const CODEX32 = 'ms1';
 
-const KNOWN = [...ADDRESS_PARTS.map((part) => `${part}1`), CODEX32];
+/** What Core Lightning's secrets begin with, which are codex32 strings with a part of their own. */
+export const LIGHTNING = 'cl1';
+
+const KNOWN = [...ADDRESS_PARTS.map((part) => `${part}1`), CODEX32], ALL = [...KNOWN, LIGHTNING];
 
 /** The known beginning that a text has, in lower case, or null: a `1` behind it is no separator, but a mistyped character. */
-export const knownBeginning = (text) => KNOWN.find((it) => asciiLower(text.slice(0, it.length)) === it) ?? null;
+export const knownBeginning = (text) => ALL.find((it) => asciiLower(text.slice(0, it.length)) === it) ?? null;
 
 /** Whether a text begins as addresses of Bitcoin do. */
-export const isAddressLike = (text) => ![null, CODEX32].includes(knownBeginning(text));
+export const isAddressLike = (text) => ![null, CODEX32, LIGHTNING].includes(knownBeginning(text));
 
 /** Whether a text is the front of a known beginning, or the whole of it. */
-export const isBegun = (text) => KNOWN.some((it) => it.startsWith(asciiLower(text)));
+export const isBegun = (text) => ALL.some((it) => it.startsWith(asciiLower(text)));
 
 /**
  * A text of which the separator of a known beginning stands behind the character that follows it: in lower case with these

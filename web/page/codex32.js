@@ -3,7 +3,7 @@ import { asciiLower } from '../src/reasons.js';
 import { columnsOf, mendingOf } from './pair.js';
 import { faultsOf, inCaseOf, readingOf, unreadSaid } from './reading.js';
 import { mended, refusal, unmended } from './saying.js';
-import { STRING, WARNINGS } from './sentences.js';
+import { NONE, STRING, WARNINGS } from './sentences.js';
 import { tried } from './tried.js';
 import { hex } from './words.js';
 
@@ -77,7 +77,7 @@ export const ofCodex32 = (library, text) => {
   const [offer] = offersOf(library, it.characters, it, value, null), wrong = faults.length ? [] : [STRING.wrong];
   if (offer?.isSound) return mended([offer], [...seen, ...wrong]);
   const nothing = offer ? offer.said[0] : STRING.nothing;
-  return { ...unmended(it, [...faults, ...wrong, nothing], it.unread.length < BOUND), warnings };
+  return { ...unmended(it, STRING.name, [NONE.found, ...faults, ...wrong, nothing], it.unread.length < BOUND), warnings };
 };
 
 // ---- the secret

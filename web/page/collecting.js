@@ -37,7 +37,7 @@ export const ofString = (library, typed) => {
   if (found.tone === 'warning') return { ...found, added: null };
   if (CODEX32.startsWith(asciiLower(start))) return { ...failed(RECOVER.begun), tone: 'open', added: null };
   const texts = textsOf(found, start);
-  if (!texts.every(isString)) return { ...failed(RECOVER.other), added: null };
+  if (!texts.every(isString)) return { ...failed(RECOVER.other), tone: 'other', added: null };
   const { secretOf: _, ...alone } = found;
   return { ...freshly(alone), added: addedOf(library, typed, texts) };
 };

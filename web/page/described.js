@@ -1,9 +1,12 @@
 // What the page says of an output descriptor (BIP-380).
 import { withinOf } from './others.js';
 import { columnsOf, edited, mendingOf, sizesOf } from './pair.js';
-import { mended, unmended } from './saying.js';
-import { DESCRIPTOR, OTHER, WARNINGS } from './sentences.js';
+import { foreign, mended, unmended } from './saying.js';
+import { DESCRIPTOR, NONE, OTHER, WARNINGS } from './sentences.js';
 import { tried } from './tried.js';
+
+// What descriptors begin with. Another text with brackets may be right.
+const DESCRIPTOR_NAMES = /^(?:pk|pkh|wpkh|sh|wsh|tr|rawtr|combo|multi|sortedmulti|musig|addr|raw)\(/i;
 
 // The end of a text in which a checksum begins, where one is meant.
 const END = 11;
@@ -41,5 +44,6 @@ export const ofDescriptor = (library, text) => {
   const offers = found.map(offerOf(Array.from(text), isSecret));
   if (offers.length) return mended(offers, [DESCRIPTOR.wrong]);
   if (isSecret) return { said: [DESCRIPTOR.wrong, DESCRIPTOR.nothing], ...secret };
-  return unmended({ text, unread: [] }, [DESCRIPTOR.wrong, DESCRIPTOR.nothing], false);
+  if (!DESCRIPTOR_NAMES.test(text)) return foreign();
+  return unmended({ text, unread: [] }, DESCRIPTOR.name, [NONE.found, DESCRIPTOR.wrong, DESCRIPTOR.nothing], false);
 };

@@ -28,9 +28,9 @@ const isText = { isAddress: false, isBroken: false, isOfferable: true, facts: []
 // An output of another form has no rule for spending, and anyone may take it: no such address is offered.
 const isForm = ({ version, program }) => PROGRAMS.some(([of, size]) => of === version && size === program.length);
 
-const addressKind = (known, { hrp, version, program }) => ({
+const addressKind = (known, { hrp, version, program }, name) => ({
   isAddress: true, isBroken: false, isOfferable: isForm({ version, program }), known,
-  said: [known ? VALID.network(known.network) : VALID.otherNetwork(hrp), ...(known ? VALID.pays(version, program.length) : [])],
+  said: [known ? VALID.network(known.network, name) : VALID.otherNetwork(hrp), ...(known ? VALID.pays(version, program.length) : [])],
   facts: [{ name: VALID.program(version, program.length), text: hex(program) }],
 });
 
@@ -60,7 +60,7 @@ export const kindOf = (library, text, parts, name) => {
   const part = asciiLower(parts.hrp), known = knownPart(part);
   const { value, refused } = tried(() => library.segwit.decode(text));
   if (isTex(part, parts.data, name)) return { ...isText, known: TEX, said: [VALID.alone] };
-  if (value && (!known || known.network)) return addressKind(known, value);
+  if (value && (!known || known.network)) return addressKind(known, value, name);
   if (!known) return { ...isText, known, said: [VALID.unknown(parts.hrp, parts.data.length)] };
   if (known.network) return brokenAddress(known, refused, name);
   const why = whyNone(known, parts, name);

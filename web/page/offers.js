@@ -47,7 +47,7 @@ const acceptedParts = (text) => {
 // What is said of a text that the checksum of this name accepts, with this many changes.
 const acceptedOf = (library, text, [, name], count) => {
   const kind = kindOf(library, text, acceptedParts(text), name), { isAddress, isOfferable, known, said, facts } = kind;
-  const right = isAddress ? [MENDED.address(count, name)] : [MENDED.text(count, name), VALID.is(known.what)];
+  const right = isAddress ? [MENDED.address(count, known.title)] : [MENDED.text(count, name), VALID.is(known.what)];
   const isSecret = known.isSecret ?? false, size = text.length - text.lastIndexOf('1') - 1;
   const isSound = isOfferable && (known.sizes?.includes(size) ?? true);
   return { text, said: [...right, ...said], facts, isAddress, isSound, isSecret, ...(isSecret && { warning: WARNINGS.key }) };

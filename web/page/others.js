@@ -1,6 +1,7 @@
-// What the page cannot test, what is no Bech32 text at all, secrets, and several texts at once. This is seen by how they
-// look, without the library.
+// What the page cannot test, secrets within a text, seed words, and several texts at once. This is seen by how they look,
+// without the library.
 import { ALPHABET, asciiLower } from '../src/reasons.js';
+import { SECRETS_WITHIN } from './forms.js';
 import { partOf } from './parts.js';
 import { OTHER, WARNINGS } from './sentences.js';
 
@@ -24,54 +25,15 @@ export const untested = (text) => {
   return { ...other(OTHER.offer(asciiLower(kind)), said), text, marked: strange ? [strange.at] : [] };
 };
 
-// ---- texts of other kinds
-
-// An address of the older kinds, or the front of one.
-const OLDER = /^(?=.*[a-z])(?=.*[A-Z])([13])[0-9A-Za-z]{7,35}$/;
-const WHOLE_OLDER = /^[13][1-9A-HJ-NP-Za-km-z]{25,34}$/;
-
-const BASE58 = '[1-9A-HJ-NP-Za-km-z]';
-const EXTENDED = '[xyztuv]prv', WIF = `(?:[5KL9c]${BASE58}{50,51}|6P${BASE58}{56})`;
-const WITHIN = [
-  [/(?<![0-9a-z])nsec1/i, 'a nostr private key'], [/(?<![0-9a-z])age-(?:secret-key|plugin)-/i, 'an age private key'],
-  [/(?<![0-9a-z])secret-extended-key-/i, 'a Zcash private key'], [new RegExp(`(?<![0-9A-Za-z])${EXTENDED}[0-9A-Za-z]{8}`, 'i'), 'an extended private key'],
-  [new RegExp(`(?<![0-9A-Za-z])(?=[0-9A-Za-z]*[a-z])(?=[0-9A-Za-z]*[A-Z])${WIF}(?![0-9A-Za-z])`), 'a private key'],
-];
+// ---- secrets within a text, and script expressions
 
 /** The secret that stands in a text, and where, or null. */
-export const withinOf = (text) => WITHIN.map(([form, what]) => ({ at: text.search(form), what })).find(({ at }) => at >= 0) ?? null;
+export const withinOf = (text) => SECRETS_WITHIN.map(([form, what]) => ({ at: text.search(form), what })).find(({ at }) => at >= 0) ?? null;
 
-// A script expression, as descriptors have it, and a code before a colon.
-const SCRIPT = /^[a-z][a-z0-9_]*\(/i, CODE = /^([a-z][a-z0-9+.-]{0,40}:)/i;
-const CODES = {
-  'kaspa:': 'a Kaspa address', 'kaspatest:': 'a Kaspa address', 'kaspadev:': 'a Kaspa address', 'kaspasim:': 'a Kaspa address',
-  'bitcoincash:': 'a Bitcoin Cash address', 'bchtest:': 'a Bitcoin Cash address', 'bchreg:': 'a Bitcoin Cash address',
-  'simpleledger:': 'a Bitcoin Cash address', 'slptest:': 'a Bitcoin Cash address', 'ecash:': 'an eCash address',
-  'ectest:': 'an eCash address', 'etoken:': 'an eCash address', 'nexa:': 'a Nexa address', 'nexatest:': 'a Nexa address',
-};
-
-const ofCode = (code) => other(CODES[asciiLower(code)] ? OTHER.code(code, CODES[asciiLower(code)]) : OTHER.unknownCode(code));
-
-const FORMS = [
-  [OLDER, ([, digit]) => other(OTHER.older(digit))],
-  [/^0x/i, () => other(OTHER.hex)],
-  [/^S[PMTN][0-9A-HJKMNP-TV-Z]{37,39}$/, () => other(OTHER.stacks)],
-  [/^([xyztuv]pub)[0-9A-Za-z]/i, ([, name]) => other(OTHER.publicKey(name))],
-  [new RegExp(`^(${EXTENDED})[0-9A-Za-z]`, 'i'), ([, name]) => warning(OTHER.privateKey(name), [WARNINGS.wallet])],
-  [new RegExp(`^(?=.*[a-z])(?=.*[A-Z])${WIF}$`), () => warning(OTHER.wif, [WARNINGS.wallet])],
-  [CODE, ([, code]) => ofCode(code)],
-];
+const SCRIPT = /^[a-z][a-z0-9_]*\(/i;
 
 /** Whether a text is a script expression, as descriptors are: its commas and brackets stand between no texts. */
 export const isScript = (text) => SCRIPT.test(text.trim());
-
-/** What is said of a text that is of another kind, or null. */
-export const otherKind = (text) => {
-  const [form, said] = FORMS.find(([it]) => it.test(text)) ?? [];
-  return form ? said(form.exec(text)) : null;
-};
-
-// ---- secrets
 
 /** A warning where a secret stands in what was put in, with something before it, or null. */
 export const secretWithin = (typed) => {
@@ -92,7 +54,7 @@ export const seedWords = (typed) => {
 // ---- several texts
 
 const PIECES = /[\s,;|]+/;
-const BEGINNING = /^(?:bitcoin:)?(?:bcrt|bc|tb|ms)1/i;
+const BEGINNING = /^(?:bitcoin:)?(?:bcrt|bc|tb|ms|cl)1/i, WHOLE_OLDER = /^[13][1-9A-HJ-NP-Za-km-z]{25,34}$/;
 
 // A `b` and a `1` are no data, so these behind an address begin another.
 const FOLLOWING = /(?<=(?:bcrt|bc|tb|ms)1[02-9ac-hj-np-z?]{10,})(?=(?:bcrt|bc|tb)1)/gi;
@@ -117,7 +79,7 @@ const textsIn = (typed) => {
 
 // What some texts are to be warned of, where one of them is a secret.
 const warningsOf = (texts) => {
-  if (texts.some((it) => /^ms1/i.test(it))) return { warnings: [WARNINGS.strings] };
+  if (texts.some((it) => /^(?:ms|cl)1/i.test(it))) return { warnings: [WARNINGS.strings] };
   return texts.some((it) => partOf(it).known?.isSecret) ? { warnings: [WARNINGS.key] } : {};
 };
 

@@ -7,18 +7,19 @@ const BECH32 = 'bech32', BECH32M = 'bech32m';
 // The characters behind the separator of this many bytes: the data and the checksum.
 const ofBytes = (...sizes) => sizes.map((size) => Math.ceil((8 * size) / 5) + 6);
 
-const segwit = (network) => ({ network, what: `a segwit address of ${network}`, checksum: null, sizes: null });
+const segwit = (network, title = network) => ({ network, title, what: `a segwit address of ${network}`, checksum: null, sizes: null });
 const row = (what, checksum, sizes = null) => ({ what, checksum, sizes });
 const secret = (what, checksum, sizes = null) => ({ ...row(what, checksum, sizes), isSecret: true });
 
 // What a text with a part is. `checksum` is there where its texts have that one alone, and `sizes` where they have one of so
-// many characters behind the separator; `isExact` where no others are valid. Of a `network` are segwit addresses.
+// many characters behind the separator; `isExact` where no others are valid. Of a `network` are segwit addresses, and a headline
+// has its `title`.
 const ROWS = [
-  ['bc', segwit('Bitcoin')], ['tb', segwit('the Bitcoin test networks')], ['bcrt', segwit('a local Bitcoin test network')],
-  ['ltc', segwit('Litecoin')], ['tltc rltc', segwit('a Litecoin test network')], ['vtc', segwit('Vertcoin')],
+  ['bc', segwit('Bitcoin')], ['tb', segwit('the Bitcoin test networks', 'Bitcoin testnet')], ['bcrt', segwit('a local Bitcoin test network', 'Bitcoin regtest')],
+  ['ltc', segwit('Litecoin')], ['tltc rltc', segwit('a Litecoin test network', 'Litecoin testnet')], ['vtc', segwit('Vertcoin')],
   ['dgb', segwit('DigiByte')], ['grs', segwit('Groestlcoin')], ['btg', segwit('Bitcoin Gold')], ['sys', segwit('Syscoin')],
-  ['mona', segwit('Monacoin')], ['ex', segwit('Liquid, and not confidential')],
-  ['tex ert', segwit('a Liquid test network, and not confidential')],
+  ['mona', segwit('Monacoin')], ['ex', segwit('Liquid, and not confidential', 'Liquid')],
+  ['tex ert', segwit('a Liquid test network, and not confidential', 'Liquid testnet')],
 
   ['sp', row('a silent payment address', BECH32M, [113])],
   ['tsp sprt', row('a silent payment address of a test network', BECH32M, [113])],

@@ -52,3 +52,17 @@ export const unreadSaid = ({ unread, strange }) => {
   const given = unread.length - strange.length;
   return given > 0 ? [SEEN.unread(given)] : [];
 };
+
+// ---- whether a text has the shape of Bech32 texts
+
+const MOST_OF_OTHER_CASE = 2;
+
+/**
+ * Whether a text looks like one of Bech32: after its separator at most an eighth of the characters, or one, cannot stand there,
+ * and all letters but two have one case. Another text is most likely none, although it begins like one.
+ */
+export const isShaped = (text) => {
+  const it = readingOf(text, '?'), letters = (form) => text.match(form)?.length ?? 0;
+  const isData = it.separator > 0 && it.strange.length <= Math.max(1, sizeOf(it) / 8);
+  return isData && Math.min(letters(/[a-z]/g), letters(/[A-Z]/g)) <= MOST_OF_OTHER_CASE;
+};

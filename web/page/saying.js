@@ -7,7 +7,7 @@
 // to be copied. `strings` are codex32 strings of a set, each with a `title`, and what is said of it alone (`found`);
 // `secretOf` are those that give the secret, which is shown by a button.
 import { ordinal } from '../src/reasons.js';
-import { CAUTION, MENDED, NONE } from './sentences.js';
+import { CAUTION, MENDED, NONE, OTHER } from './sentences.js';
 
 // More than these are not shown.
 const MOST = 10;
@@ -31,15 +31,21 @@ export const mended = (offers, faults) => {
 /** An answer that is no more than this sentence. */
 export const failed = (sentence) => ({ tone: 'wrong', verdict: sentence, notes: [], said: [] });
 
-/** That nothing mends a text, and what else is known of it. Where more of it may be left open, that is said. */
-export const unmended = ({ text, unread }, said, canMore, verdict = NONE.verdict) =>
-  ({ tone: 'wrong', verdict, said: [...said, ...(canMore ? [NONE.unsure] : [])], text, marked: unread });
+/** What is said of a text of no kind that the page knows. It may be right, so it is not called wrong. */
+export const foreign = (more = []) => ({ tone: 'other', verdict: OTHER.foreign, said: more, notes: [] });
+
+/**
+ * That a text of a known kind, such as an `address`, is wrong and that nothing mends it; then what else is known of it. Where
+ * more of it may be left open, that is said.
+ */
+export const unmended = ({ text, unread }, what, said, canMore) =>
+  ({ tone: 'wrong', verdict: NONE.isWrong(what), said: [...said, ...(canMore ? [NONE.unsure] : [])], text, marked: unread });
 
 /** That a text is the front of an address, of this length. */
 export const unfinished = (text, { sentence, slip }) => ({ tone: 'open', verdict: sentence, said: slip, text, marked: [] });
 
-/** What the library refuses, behind the faults that were seen before it. */
-export const refusal = (text, { message, place }, faults = [], unread = []) => {
-  const [verdict, ...said] = [...faults, message];
+/** What the library refuses, after the faults that were seen before it, and after the verdict where there is one. */
+export const refusal = (text, { message, place }, faults = [], unread = [], before = []) => {
+  const [verdict, ...said] = [...before, ...faults, message];
   return { tone: 'wrong', verdict, said, text, marked: place === null ? unread : [...unread, ordinal(text, place) - 1] };
 };

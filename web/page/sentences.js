@@ -57,6 +57,7 @@ export const WARNINGS = {
 
 const OFFERS = { o: 'offer', r: 'invoice request', i: 'invoice' };
 const COMPARE = 'Compare it with the source, character by character, before you use it.';
+const NO_BECH32 = 'It is not a Bech32 text, so this page can neither test nor correct it.';
 const OWN_CHECKSUM = 'It has a checksum of its own. This page does not read it, so it can neither test nor correct this.';
 
 export const OTHER = {
@@ -67,23 +68,23 @@ export const OTHER = {
   strange: (at, character) => `Character ${place(at)}, ${shown(character)}, cannot be part of it.`,
   descriptor: { verdict: 'This looks like a descriptor: it tells a wallet how its addresses are made.' },
   descriptorSecret: 'This looks like a descriptor with a private key in it.',
-  code: (code, name) => ({ verdict: `This begins like ${name} (“${code}”).`, said: [OWN_CHECKSUM, COMPARE] }),
-  unknownCode: (code) => ({
+  // Of the kinds that are known by their form (forms.js): what is said of each, by its name and what its pattern has in groups.
+  looks: (what) => ({ verdict: `This looks like ${what}.`, said: [OWN_CHECKSUM, COMPARE] }),
+  older: (what, digit) => ({ verdict: `This looks like ${what}, which begins with ${digit}.`, said: [OWN_CHECKSUM] }),
+  code: (what, code) => ({ verdict: `This begins like ${what} (“${code}”).`, said: [OWN_CHECKSUM, COMPARE] }),
+  unknownCode: (what, code) => ({
     verdict: `This begins with “${code}”, which this page does not know.`,
     said: ['It may be a link, or an address with another checksum. This page can neither test nor correct it.'],
   }),
-  older: (digit) => ({ verdict: `This looks like an older kind of Bitcoin address, which begins with ${digit}.`, said: [OWN_CHECKSUM] }),
-  hex: {
-    verdict: 'This begins with “0x”, like an Ethereum address or another number in base 16.',
-    said: ['It is not a Bech32 text, so this page can neither test nor correct it.'],
-  },
-  stacks: { verdict: 'This looks like a Stacks address.', said: [OWN_CHECKSUM, COMPARE] },
-  publicKey: (name) => ({
-    verdict: `This is an extended public key (${name}), not an address. A wallet makes addresses from it.`,
+  unchecked: (what) => ({ verdict: `This looks like ${what}.`, said: [NO_BECH32] }),
+  mayBeKey: (what) => ({ verdict: `This looks like ${what}.`, said: [NO_BECH32, 'If it is a private key, clear the field now.'] }),
+  hex: (what) => ({ verdict: `This begins with “0x”, like ${what}.`, said: [NO_BECH32] }),
+  publicKey: (what, name) => ({
+    verdict: `This is ${what} (${name}), not an address. A wallet makes addresses from it.`,
     said: [OWN_CHECKSUM, 'Whoever has it can see all addresses of the wallet.'],
   }),
-  privateKey: (name) => `This is an extended private key (${name}). Do not type it into any page.`,
-  wif: 'This looks like a private key. Do not type it into any page.',
+  extendedKey: (what, name) => ({ verdict: `This is ${what} (${name}). Do not type it into any page.`, warnings: [WARNINGS.wallet] }),
+  privateKey: (what) => ({ verdict: `This looks like ${what}. Do not type it into any page.`, warnings: [WARNINGS.wallet] }),
   within: (what) => `There is a secret in this text: ${what}. Do not type it into any page.`,
   words: {
     verdict: 'These look like seed words. Do not type them into any page.',
@@ -93,13 +94,22 @@ export const OTHER = {
   several: (count, kind) => ({
     verdict: `${counted(count, '', kind)} stand here, and this page reads one at a time.`, said: ['Choose one of them:'],
   }),
-  tooLong: (length) => `This has ${grouped(length)} characters, which is too long: a text has at most `
-    + `${grouped(C.BECH32_MAX_LONG_TEXT)}, an address ${C.BECH32_MAX_SEGWIT_TEXT} and a codex32 string ${C.CODEX32_MAX_LONG_TEXT}.`,
+  tooLong: (length) => ({
+    verdict: `This has ${grouped(length)} characters, which is more than this page reads, so it cannot judge this.`,
+    said: [`A Bech32 text has at most ${grouped(C.BECH32_MAX_LONG_TEXT)} characters here, an address `
+      + `${C.BECH32_MAX_SEGWIT_TEXT} and a codex32 string ${C.CODEX32_MAX_LONG_TEXT}.`],
+  }),
   long: (what, length, most) => ({
     verdict: `This begins like ${what}, and has ${grouped(length)} characters.`,
     said: [`This page tests texts of at most ${grouped(most)} characters, so it can neither test nor correct this.`, COMPARE],
   }),
   begun: 'An address or a codex32 string begins like this.',
+  // No kind that the page knows.
+  foreign: 'This does not look like a Bech32 text, so this page cannot judge it.',
+  unknownPart: (part) => ({
+    verdict: `This page does not know texts that begin with “${part}1”, so it cannot judge this one.`,
+    said: ['Neither Bech32m nor Bech32 accepts it. It may have another checksum, or none, or it may be mistyped.'],
+  }),
 };
 
 // ---- valid texts
@@ -111,11 +121,12 @@ const PAYS = {
 };
 
 export const VALID = {
-  address: (name) => `This is a valid ${name} address.`,
+  address: (network) => `This is a valid ${network} address.`,
+  strangeAddress: (name) => `This is a valid ${name} address of a network that this page does not know.`,
   text: (name) => `This is a valid ${name} text.`,
   known: (what, name) => `This is ${what}, and its ${name} checksum is right.`,
   secret: (what, name) => `This is a secret: ${what}. Its ${name} checksum is right.`,
-  network: (network) => `It is a segwit address of ${network}.`,
+  network: (network, name) => `It is a segwit address of ${network}. Its ${name} checksum is right.`,
   otherNetwork: (part) => `It is built like a segwit address, but this page knows no network with the part “${part}”.`,
   pays: (version, size) => (PAYS[`${version}/${size}`] ? [PAYS[`${version}/${size}`]] : []),
   program: (version, size) => `Witness version ${version}, program of ${size} bytes:`,
@@ -152,6 +163,7 @@ export const LENGTH = {
 // ---- descriptors
 
 export const DESCRIPTOR = {
+  name: 'descriptor',
   valid: 'This is a descriptor, and its checksum is right.',
   right: 'Its checksum is right.',
   tested: 'This page tests its checksum, and reads nothing else of it.',
@@ -167,7 +179,8 @@ export const DESCRIPTOR = {
 // ---- confidential addresses of Liquid
 
 export const LIQUID = {
-  valid: 'This is a valid confidential address of Liquid.',
+  name: 'address',
+  valid: (network) => `This is a valid confidential address of ${network}.`,
   tested: 'This page tests its Blech32 checksum and its lengths, but not whether its blinding key is one.',
   key: 'Blinding key:',
   program: (size) => `Witness version 0, program of ${size} bytes:`,
@@ -213,7 +226,7 @@ export const MENDED = {
   edit: (kind, at, characters) => EDITS[kind](at, characters),
   several: (count, what) => `${counted(count, '', what)} are close to this. At most one of them is the one you want.`,
   left: (count) => `${counted(count, 'more is', 'more are')} not shown.`,
-  address: (count, name) => `${withChanges(count)} it is a valid ${name} address.`,
+  address: (count, network) => `${withChanges(count)} it is a valid ${network} address.`,
   text: (count, name) => `${withChanges(count)} the ${name} checksum is right.`,
   weakness: 'Bech32 accepts a text that ends in “p” with any number of “q” before that “p”. Check the end of this one twice.',
 };
@@ -241,7 +254,9 @@ export const SEEN = {
 const CHANGES = [null, 'no change of one character', 'no change of one or two characters'];
 
 export const NONE = {
-  verdict: 'No correction was found.',
+  address: 'address', text: 'text',
+  isWrong: (what) => `This ${what} is wrong; do not use it.`,
+  found: 'No correction was found.',
   wrong: 'As typed, the checksum is wrong for both Bech32m and Bech32.',
   wrongFor: (name) => `As typed, the ${name} checksum is wrong.`,
   long: (most) => `This page corrects texts of at most ${grouped(most)} characters, so it does not correct this.`,
@@ -255,9 +270,6 @@ export const NONE = {
       : `${which}, ${CHANGES[errors].replace('change of', 'further change of')} ${makes}.`;
   },
   beginning: (from, all) => `It begins with “${from}”. Bitcoin addresses begin with ${all}.`,
-  // A text with a part that the page does not know.
-  unknown: (part) => `This page does not know texts that begin with “${part}1”, so it offers no correction. `
-    + 'Such a text may also have another checksum, or none.',
 };
 
 // ---- codex32 strings
@@ -265,9 +277,14 @@ export const NONE = {
 const size = ({ bytes }) => (bytes === null ? 'a payload that is not a whole number of bytes' : `a payload of ${bytes} bytes`);
 
 export const STRING = {
+  name: 'string',
   valid: 'This is a valid codex32 string.',
   wrong: 'As typed, the codex32 checksum is wrong.',
   mended: (count) => `${withChanges(count)} it is a valid codex32 string.`,
+  lightning: 'a Core Lightning secret',
+  validLightning: 'This is a valid Core Lightning secret (codex32).',
+  lightningSize: (size, wanted) => `It has ${grouped(size)} characters, and a Core Lightning secret has ${wanted}.`,
+  extension: 'Its beginning “cl” is that of Core Lightning. Codex32 itself (BIP-93) knows “ms” alone, and programs for it may not take this string.',
   nothing: 'More than four characters are wrong, counting two unreadable ones as one.',
   none: (why) => `The nearest text with a right checksum is not a codex32 string. ${why}`,
   facts: ({ threshold, identifier, shareIndex, length, ...it }) =>
@@ -410,7 +427,7 @@ export const RECOVER = {
 export const PAGE = {
   example: 'An example with one wrong character: ',
   copy: 'Copy it', copied: 'Copied', notCopied: 'It was not copied. Select it and copy it.',
-  show: 'Show the secret', hide: 'Hide the secret',
+  show: 'Show the secret', hide: 'Hide the secret', facts: ['Show its bytes in base 16', 'Hide its bytes in base 16'],
   isShown: 'The secret is shown below the button.', isHidden: 'The secret is hidden.',
   stopped: 'The library stopped without an answer and was started again. This is a fault of the browser or of this page. '
     + 'Do not rely on an answer for this text.',

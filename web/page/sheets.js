@@ -1,8 +1,7 @@
 // The sheets of paper, one for each share: its text with numbered places, and what helps to mend it by hand.
 import { ALPHABET } from '../src/reasons.js';
-import { toggled } from './asking.js';
 import { SHEET, SPLIT } from './sentences.js';
-import { button, element, unspoken, whole } from './shown.js';
+import { button, element, toggled, unspoken, whole } from './shown.js';
 
 // The number of places in a row and in a group. Between groups is a gap.
 const ROW = 16, GROUP = 4;

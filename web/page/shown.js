@@ -76,9 +76,28 @@ const copying = (text, does) => element('p', '', button('copy', (it) => does.cop
 // Warnings stand above the button that they are about, each in a block of its own.
 const warned = (warnings) => paragraphs('caution', warnings);
 
+/** Says in a button whether what it shows is shown now. */
+export const toggled = (it, isShown, [show, hide]) => {
+  it.setAttribute('aria-expanded', String(isShown));
+  it.textContent = isShown ? hide : show;
+};
+
 // A text with a name, in groups of four.
 const grouped = (text) => text.replace(/(.{4})(?=.)/g, '$1 ');
 const shownFact = ({ name, text }) => element('p', 'fact', `${name} `, element('code', '', grouped(text)));
+
+// Hexadecimal digits, which few want to read and nobody to hear unasked: all of them behind one button.
+const shownFacts = (facts) => {
+  if (facts.length === 0) return [];
+  const room = element('div', 'facts', ...facts.map(shownFact));
+  const it = button('bytes', () => {
+    room.hidden = !room.hidden;
+    toggled(it, !room.hidden, PAGE.facts);
+  });
+  room.hidden = true;
+  toggled(it, false, PAGE.facts);
+  return [element('p', '', it), room];
+};
 
 const shownChanges = (changes) => element('ul', 'changes', ...changes.map((it) => element('li', '', it)));
 
@@ -87,7 +106,7 @@ const shownChanges = (changes) => element('ul', 'changes', ...changes.map((it) =
 const shownOffer = (isAlone, { isSecret, warnings, secretOf }, title, does) => ({ headline, columns, changes, text, said, facts }) =>
   element('section', 'offer', ...(isAlone ? [] : [element(title, '', headline)]), rows(columns, mendedColumn), whole(text),
     ...(isSecret ? [] : [...warned(warnings), copying(text, does)]), shownChanges(changes),
-    ...paragraphs('', secretOf ? [] : said), ...facts.map(shownFact));
+    ...paragraphs('', secretOf ? [] : said), ...shownFacts(facts));
 
 const shownText = ({ tone, text, marked, isSecret }, does) => {
   const shown = rows(columnsOf(text, marked), wrongColumn);
@@ -136,7 +155,7 @@ export const shownAnswer = (answer, does, title = 'h2') => {
     ...(secretOf ? shownButton(secretOf, does) : []),
     ...paragraphs('', secretOf ? offers.flatMap((it) => it.said) : []),
     ...paragraphs('', isSet ? [] : said),
-    ...facts.map(shownFact),
+    ...shownFacts(facts),
     ...strings.map(shownString),
     ...parts.map(shownPart(does)),
     ...shownChoices(choices, does),
@@ -144,13 +163,11 @@ export const shownAnswer = (answer, does, title = 'h2') => {
   ];
 };
 
-const factSaid = ({ name, text }) => `${name} ${text}`;
-
 /** An answer as one text, to be spoken. */
-export const spoken = ({ verdict, notes = [], said, facts = [], offers = [], strings = [], parts = [], warnings = [] }) => {
-  const offered = offers.flatMap((it) => [it.headline, ...it.changes, ...it.said, ...it.facts.map(factSaid)]);
+export const spoken = ({ verdict, notes = [], said, offers = [], strings = [], parts = [], warnings = [] }) => {
+  const offered = offers.flatMap((it) => [it.headline, ...it.changes, ...it.said]);
   const each = strings.map(({ title, headline, said: more }) => [`${title}.`, headline, ...more].filter(Boolean).join(' '));
   const named = parts.map(({ title, ...part }) => `${title}: ${spoken(part)}`);
-  const all = [verdict, ...warnings, ...offered, ...said, ...facts.map(factSaid), ...each, ...named, ...notes];
+  const all = [verdict, ...warnings, ...offered, ...said, ...each, ...named, ...notes];
   return [...new Set(all)].join(' ');
 };

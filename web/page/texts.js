@@ -3,13 +3,13 @@ import { ADDRESS_PARTS, isAddressLike, nearBeginnings } from './beginnings.js';
 import { CHECKSUMS, LONG, LONG_CHECKSUMS, SHORT, checksumsFor, checksumsOf, kindOf, lengthOf, slipSaid } from './kinds.js';
 import { MOST_UNREAD, errorsFor, offersByEdit, offersFor } from './offers.js';
 import { faultsOf, readingOf, sizeOf, unreadSaid } from './reading.js';
-import { mended, refusal, unfinished, unmended } from './saying.js';
+import { foreign, mended, refusal, unfinished, unmended } from './saying.js';
 import { LENGTH, NONE, OTHER, VALID, WARNINGS } from './sentences.js';
 import { tried } from './tried.js';
 import { listed } from './words.js';
 
 const verdictOf = (name, { isAddress, known }) => {
-  if (isAddress) return VALID.address(name);
+  if (isAddress) return known ? VALID.address(known.title) : VALID.strangeAddress(name);
   return known ? VALID.known(known.what, name) : VALID.text(name);
 };
 
@@ -41,6 +41,8 @@ export const ofRightText = (library, text) => {
 
 // ---- texts that are wrong
 
+const CHECKSUM_LENGTH = 6;
+
 const ADDRESSES_BEGIN = listed(ADDRESS_PARTS.map((part) => `“${part}1”`), 'or');
 
 const wrongSaid = ({ known }) => {
@@ -60,11 +62,15 @@ const beginningSaid = (text) => {
   return near ? [NONE.beginning(near.from, ADDRESSES_BEGIN)] : [];
 };
 
-// A text of a part that the page does not know: nothing is offered.
-const unknownText = (text, it, faults) => {
-  const [verdict, ...said] = [...(it.unread.length ? [] : [wrongSaid(it)]), ...faults];
-  return { tone: 'wrong', verdict, said: [...said, NONE.unknown(it.part), ...beginningSaid(text)], text, marked: it.unread };
+// A text of no part that the page knows: it may be right.
+const unknownText = (text, it) => {
+  const hints = beginningSaid(text), isOne = /^[!-~]+$/.test(it.part) && it.strange.length === 0 && sizeOf(it) >= CHECKSUM_LENGTH;
+  if (!isOne || it.isMixed) return foreign(hints);
+  const { verdict, said } = OTHER.unknownPart(it.part);
+  return { ...foreign([...said, ...hints]), verdict };
 };
+
+const whatOf = ({ known }) => (known.network ? NONE.address : NONE.text);
 
 const isSaid = ({ known }) => (known && !known.network ? [VALID.begins(known.what)] : []);
 
@@ -73,8 +79,8 @@ const unmendedText = (library, text, it, faults) => {
   const length = lengthOf(library, text);
   if (length?.isShort && faults.length === 0) return unfinished(text, length);
   const said = [...(faults.length || length ? faults : [wrongSaid(it)]), nothingSaid(library, it), ...isSaid(it)];
-  const canMore = it.unread.length < MOST_UNREAD;
-  return length ? unmended(it, [...length.slip, ...said], canMore, length.sentence) : unmended(it, said, canMore);
+  const first = length ? [length.sentence, ...length.slip] : [NONE.found];
+  return unmended(it, whatOf(it), [...first, ...said], it.unread.length < MOST_UNREAD);
 };
 
 // A text that was mended. Where that changed its length, the wrong one is told.
@@ -105,6 +111,14 @@ const begunText = (text, it) => {
   return { tone: 'open', verdict, said: slip, text, marked: [], ...secretOf(it) };
 };
 
+// A text of a known part with a fault that is seen without the checksum. One that is too short for a checksum may be a front.
+const refusedText = (library, text, it, refused, faults) => {
+  const isFront = refused.code === 'NO_CHECKSUM' && faults.length === 0, length = lengthOf(library, text);
+  if (isFront && length?.isShort) return unfinished(text, length);
+  if (isFront) return { ...refusal(text, refused), tone: 'open' };
+  return refusal(text, refused, faults, it.unread, [NONE.isWrong(whatOf(it))]);
+};
+
 /** What is said of a text that no checksum accepts. */
 export const ofWrongText = (library, text) => {
   const it = readingOf(text, '0');
@@ -112,12 +126,11 @@ export const ofWrongText = (library, text) => {
   const offers = offersFor(library, it);
   if (offers.length) return mendedText(library, it, offers);
   const first = tried(() => library.check('bech32m', text)).refused;
-  if (it.separator < 0) return refusal(text, first);
+  if (!it.known) return unknownText(text, it);
   const begun = begunText(text, it);
   if (begun) return begun;
   const faults = [...faultsOf(it, MOST_UNREAD), ...unreadSaid(it)];
   const refused = it.filled === text ? first : tried(() => library.check('bech32m', it.filled)).refused;
-  if (refused && refused.code !== 'WRONG_CHECKSUM') return { ...refusal(text, refused, faults, it.unread), ...secretOf(it) };
-  if (!it.known) return unknownText(text, it, faults);
+  if (refused && refused.code !== 'WRONG_CHECKSUM') return { ...refusedText(library, text, it, refused, faults), ...secretOf(it) };
   return { ...unmendedText(library, text, it, faults), ...secretOf(it) };
 };

@@ -73,6 +73,18 @@ export function decodeElements(checksum: AnyChecksum, text: string): { hrp: stri
  */
 export function encodeElements(checksum: AnyChecksum, hrp: string, elements: Uint8Array): string;
 
+/**
+ * The elements of bytes, as `encodeElements` takes them: their bits, five at a time, the highest first, with zeros after the last.
+ * Any number of bytes is taken. It has the name that other packages give it.
+ */
+export function toWords(bytes: Uint8Array): Uint8Array;
+
+/**
+ * The bytes of elements, as `decodeElements` returns them, of any number: a Uint8Array, or a list of numbers. Bits after the
+ * last whole byte are refused if they are more than four, or not all zero. Throws `Refused`, with the `place` of the element.
+ */
+export function fromWords(elements: Uint8Array | Iterable<number>): Uint8Array;
+
 /** The parts of a text that a checksum accepts, without the checksum itself. Throws `Refused`. */
 export function check(checksum: AnyChecksum, text: string): { hrp: string; data: string };
 
@@ -178,10 +190,11 @@ export const segwit: {
   /** The address of a witness version, from 0 to 16, and a program. Throws `Refused`. */
   encode(hrp: string, version: number, program: Uint8Array): string;
   /**
-   * The parts of an address. Any human-readable part is accepted: compare it with that of your network. Throws
-   * `Refused`.
+   * The parts of an address, of the network whose human-readable part is named, in either case: another address is refused with
+   * OTHER_HRP. If it is left out or null, any part is accepted, and yours to compare. Throws `Refused`: of `hrp` first, if that is
+   * no human-readable part, then of the text.
    */
-  decode(text: string): { hrp: string; version: number; program: Uint8Array };
+  decode(text: string, hrp?: string | null): { hrp: string; version: number; program: Uint8Array };
   /**
    * Decodes a column of addresses: of each row its number, as of `checkMany`, its witness version, the length of the human-readable
    * part, with which it begins, and its program. Name the human-readable part of your network: another address then has the number

@@ -130,6 +130,41 @@ const textCalls = (calls, reasons) => ({
   },
 });
 
+// Bytes and elements of five bits are regrouped in pieces that a text has room for: 5 bytes are 8 elements.
+const PIECE_OF_BYTES = 4400, PIECE_OF_WORDS = (8 * PIECE_OF_BYTES) / 5, ANY_HRP = 'a';
+
+const wordsGiven = (given) => {
+  if (given instanceof Uint8Array) return given;
+  const words = typeof given === 'object' && given?.[Symbol.iterator] ? [...given] : null;
+  if (!words?.every((it) => Number.isInteger(it) && it >= 0 && it < 256)) throw new TypeError('the elements are no Uint8Array and no list of small numbers');
+  return Uint8Array.from(words);
+};
+
+const piecesOf = (all, size) => Array.from({ length: Math.ceil(all.length / size) }, (_, i) => all.subarray(i * size, (i + 1) * size));
+
+const joined = (pieces, size) => {
+  const all = new Uint8Array(pieces.reduce((sum, it) => sum + it.length, 0));
+  pieces.forEach((piece, i) => all.set(piece, i * size));
+  return all;
+};
+
+const wordCalls = (calls, reasons) => ({
+  toWords(data) {
+    const long = ALL_CHECKSUMS.longBech32;
+    const wordsOf = (piece) => calls.decodeElements(long, calls.encode(long, ANY_HRP, piece).text).elements;
+    return joined(piecesOf(bytes(data, 'the data'), PIECE_OF_BYTES).map(wordsOf), PIECE_OF_WORDS);
+  },
+  fromWords(given) {
+    const long = ALL_CHECKSUMS.longBech32, words = wordsGiven(given);
+    const bytesOf = (piece, i) => {
+      const answer = calls.encodeElements(long, ANY_HRP, piece);
+      const { text: held } = accepted(answer, (n) => reasons.elementsEncoding(n, ANY_HRP, words, i * PIECE_OF_WORDS + answer.place, long));
+      return accepted(calls.decodeStrict(long, held), (n) => reasons.words(n, words)).bytes;
+    };
+    return joined(piecesOf(words, PIECE_OF_WORDS).map(bytesOf), PIECE_OF_BYTES);
+  },
+});
+
 // An address that may have been meant, with the one edit or the characters that make it of what was typed.
 const suggestionOf = (given, { text: found, kind, place }) => {
   const after = inCaseOf(given, found);
@@ -161,8 +196,11 @@ const segwitCalls = (calls, reasons) => ({
     const answer = calls.segwitEncode(hrp, version, program);
     return accepted(answer, (n) => reasons.addressEncoding(n, hrp, version, program)).text;
   },
-  decode(given) {
-    const { hrp, version, program } = accepted(calls.segwitDecode(text(given)), (n) => reasons.address(n, given));
+  decode(given, wanted = null) {
+    text(given);
+    if (wanted !== null) partTest(calls, reasons)(wanted);
+    const { hrp, version, program } = accepted(calls.segwitDecode(given), (n) => reasons.address(n, given));
+    if (wanted !== null && asciiLower(hrp) !== asciiLower(wanted)) throw new Refused(reasons.otherHrp(hrp, wanted));
     return { hrp, version, program };
   },
 });
@@ -390,18 +428,30 @@ const askedSecretly = (calls, { share }) => ({
   },
 });
 
-/** The library over its two modules, each a `WebAssembly.Module`. */
-export const library = (bech32Module, codex32Module) => {
-  const calls = bech32Calls(bech32Module), codex32 = codex32Calls(codex32Module);
-  const reasons = reasonsOf(asked(calls));
+/**
+ * The library over the module `bech32_c`, a `WebAssembly.Module`; `strings` adds what the module `codex32_c` has, whose reasons
+ * ask this one too.
+ */
+export const bech32Library = (bech32Module) => {
+  const calls = bech32Calls(bech32Module), reasons = reasonsOf(asked(calls));
   return {
     ...textCalls(calls, reasons),
+    ...wordCalls(calls, reasons),
     testPart: partTest(calls, reasons),
     segwit: segwitCalls(calls, reasons),
     ...mendingCalls(calls, reasons),
     descriptor: descriptorFunctions(descriptorCalls(bech32Module), reasons),
     liquid: liquidCalls(calls, reasons),
-    codex32: codex32Functions(codex32, reasonsOf(askedSecretly(calls, codex32))),
     wipe: calls.wipe,
+    strings(codex32Module) {
+      const codex32 = codex32Calls(codex32Module);
+      return codex32Functions(codex32, reasonsOf(askedSecretly(calls, codex32)));
+    },
   };
+};
+
+/** The library over its two modules. */
+export const library = (bech32Module, codex32Module) => {
+  const { strings, ...it } = bech32Library(bech32Module);
+  return { ...it, codex32: strings(codex32Module) };
 };

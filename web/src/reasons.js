@@ -489,6 +489,16 @@ const ofSplitting = (number, threshold, identifier, { secret, count, random }) =
 const ofPayloadEncoding = (calls, number, threshold, identifier, shareIndex, payload) =>
   ofPayload(calls, number, payload) ?? ofStringEncoding(number, threshold, identifier, shareIndex, payload);
 
+// Of elements that are regrouped to bytes.
+const ofWords = (number, words) => {
+  const place = words.length - 1, bits = (5 * words.length) % 8;
+  switch (number) {
+    case NUMBERS.PADDING_TOO_LONG: return { place, sentence: `The last element is one too many: ${bits} bits follow the last whole byte, and at most four may.` };
+    case NUMBERS.PADDING_NOT_ZERO: return { place, sentence: 'The last element has bits after the last whole byte that are not zero.' };
+    default: return null;
+  }
+};
+
 const reason = (number, found) => {
   const said = SENTENCES[number] ?? `The library refuses this with the number ${number}.`;
   return { number, code: CODES[number] ?? 'UNKNOWN', ...(found ?? nowhere(said)) };
@@ -501,6 +511,8 @@ const reason = (number, found) => {
 export const reasonsOf = (calls) => ({
   text: (number, text, checksum) => reason(number, ofText(calls, number, text, checksum)),
   address: (number, text) => reason(number, ofAddress(calls, number, text)),
+  otherHrp: (hrp, wanted) => reason(NUMBERS.OTHER_HRP, nowhere(`The human-readable part is “${hrp}”, and “${wanted}” is wanted.`)),
+  words: (number, words) => reason(number, ofWords(number, words)),
   liquid: (number, text) => reason(number, ofLiquid(calls, number, text)),
   liquidEncoding: (number, ...given) => reason(number, ofLiquidEncoding(calls, number, ...given)),
   descriptor: (number, text, at) => reason(number, ofDescriptor(number, text, at)),

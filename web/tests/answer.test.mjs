@@ -37,14 +37,15 @@ test('nothing', () => {
 
 test('right addresses', () => {
   const found = said(V0);
-  assert.deepEqual([found.tone, found.verdict, found.notes], ['right', 'This is a valid Bech32 address.', []]);
-  assert.deepEqual(found.said, ['It is a segwit address of Bitcoin.', 'It pays to the hash of a public key (P2WPKH).']);
+  assert.deepEqual([found.tone, found.verdict, found.notes], ['right', 'This is a valid Bitcoin address.', []]);
+  assert.deepEqual(found.said, ['It is a segwit address of Bitcoin. Its Bech32 checksum is right.', 'It pays to the hash of a public key (P2WPKH).']);
   assert.deepEqual(found.facts, [{ name: 'Witness version 0, program of 20 bytes:', text: '751e76e8199196d454941c45d1b3a323f1433bd6' }]);
   assert.equal(said(V0.toUpperCase()).tone, 'right');
-  assert.match(all(said(TAPROOT)), /valid Bech32m address.*Taproot/);
-  assert.match(all(said('tb1qw508d6qejxtdg4y5r3zarvary0c5xw7kxpjzsx')), /the Bitcoin test networks/);
-  assert.match(all(said('ltc1qw508d6qejxtdg4y5r3zarvary0c5xw7kgmn4n9')), /This is a valid Bech32 address\..*It is a segwit address of Litecoin\./);
-  assert.match(all(said(it.segwit.encode('abcd', 1, new Uint8Array(32)))), /built like a segwit address, but this page knows no network with the part “abcd”/);
+  assert.match(all(said(TAPROOT)), /valid Bitcoin address.*Its Bech32m checksum is right.*Taproot/);
+  assert.match(all(said('tb1qw508d6qejxtdg4y5r3zarvary0c5xw7kxpjzsx')), /This is a valid Bitcoin testnet address\..*the Bitcoin test networks/);
+  assert.equal(said(it.segwit.encode('bcrt', 1, new Uint8Array(32))).verdict, 'This is a valid Bitcoin regtest address.');
+  assert.match(all(said('ltc1qw508d6qejxtdg4y5r3zarvary0c5xw7kgmn4n9')), /This is a valid Litecoin address\..*It is a segwit address of Litecoin\./);
+  assert.match(all(said(it.segwit.encode('abcd', 1, new Uint8Array(32)))), /This is a valid Bech32m address of a network that this page does not know\..*built like a segwit address, but this page knows no network with the part “abcd”/);
 });
 
 test('what stands around an address', () => {
@@ -94,7 +95,7 @@ test('each single error of an address is marked and mended, with a caution', () 
 
 test('no address is offered of a form that is not in use', () => {
   assert.equal(it.segwit.decode(V1).program.length, 20);
-  assert.match(all(said(V1)), /valid Bech32m address/);
+  assert.match(all(said(V1)), /valid Bitcoin address/);
   for (const damaged of [...changedOnce(V1), V1.slice(0, 20) + V1.slice(21), V1.slice(0, 20) + V1.slice(19)]) {
     assert.deepEqual((said(damaged).offers ?? []).map(({ text }) => text), [], damaged);
   }
@@ -122,15 +123,16 @@ test('both checksums, where both have an answer', () => {
   const changes = found(), damaged = changes.slice(0, 2).reduce(added, text), other = changes.slice(2).reduce(added, damaged);
   const both = said(damaged);
   assert.equal(both.verdict, 'Two addresses are close to this. At most one of them is the one you want.');
-  assert.deepEqual(both.offers.map(({ said: [valid], text: mended }) => [valid, mended]).sort(),
-    [['With these changes it is a valid Bech32 address.', text], ['With these changes it is a valid Bech32m address.', other]]);
+  assert.deepEqual(both.offers.map(({ said: [, checksum], text: mended }) => [/Its (Bech32m?) checksum/.exec(checksum)[1], mended]).sort(),
+    [['Bech32', text], ['Bech32m', other]]);
   assert.match(both.warnings[0], /^Compare this with the source/);
 });
 
 test('a mended text that is an address with the checksum of the other kind is not offered', () => {
   const broken = 'bc1p0xlxvlhemja6c4dqv22uapctqupfhlxm9h8z3k2e72q4k9hcz7vqh2y7hd';
   const found = said(at(broken, 20, broken[20] === 'q' ? 'p' : 'q'));
-  assert.deepEqual([found.tone, found.verdict, found.offers], ['wrong', 'No correction was found.', undefined]);
+  assert.deepEqual([found.tone, found.verdict, found.offers], ['wrong', 'This address is wrong; do not use it.', undefined]);
+  assert.equal(found.said[0], 'No correction was found.');
   assert.ok(found.said.includes('No change of one or two characters makes it a valid address. Nor does leaving one out, adding one, or swapping two.'));
 });
 
@@ -170,8 +172,8 @@ test('of a part that it does not know the page offers nothing', () => {
     assert.equal(said(text).tone, 'right', hrp);
     for (const typed of [at(text, place, text[place] === 'q' ? 'p' : 'q'), text.slice(0, -1), `${text}q`, at(text, place, '?')]) {
       const found = said(typed);
-      assert.deepEqual([found.tone, found.offers], ['wrong', undefined], typed);
-      assert.match([found.verdict, ...found.said].join(' '), new RegExp(`(?:checksum is wrong for both.*|unreadable\\..*)This page does not know texts that begin with “${hrp}1”, so it offers no correction`));
+      assert.deepEqual([found.tone, found.offers], ['other', undefined], typed);
+      assert.equal(found.verdict, `This page does not know texts that begin with “${hrp}1”, so it cannot judge this one.`);
     }
   }
 });
@@ -233,7 +235,7 @@ test('schemes are taken off, and the parts of a link are read', () => {
   const npub = it.encode('bech32', 'npub', new Uint8Array(32).fill(7)), invoice = it.encode('bech32', 'lnbc2500u', new Uint8Array(150).fill(7));
   for (const [typed, verdict] of [[`nostr:${npub}`, /nostr public key/], [`NOSTR:${npub.toUpperCase()}`, /nostr public key/], [`lightning:${invoice}`, /Lightning invoice/],
     [`Lightning://${invoice}`, /Lightning invoice/], [`zcash:${it.encode('bech32m', 'u', new Uint8Array(70))}?amount=1`, /unified Zcash address/], ['liquidnetwork:lq1qqf8er278e6nyvuwtgf39e6ewvdcnjupn9a86rzpx655y5lhkt0walu3djf9cklkxd3ryld97hu8h3xepw7sh2rlu7q45dcew5', /confidential address of Liquid/],
-    [`bitcoin:?sp=${SILENT}`, /silent payment address/], [`BITCOIN:?SP=${SILENT.toUpperCase()}`, /silent payment address/], [`bitcoin:?lno=lno1pqps7sjq`, /Lightning offer/], [`bitcoin:?lightning=${invoice}&amount=1`, /Lightning invoice/], [`bitcoin:?bc=${V0}`, /valid Bech32 address/]]) {
+    [`bitcoin:?sp=${SILENT}`, /silent payment address/], [`BITCOIN:?SP=${SILENT.toUpperCase()}`, /silent payment address/], [`bitcoin:?lno=lno1pqps7sjq`, /Lightning offer/], [`bitcoin:?lightning=${invoice}&amount=1`, /Lightning invoice/], [`bitcoin:?bc=${V0}`, /valid Bitcoin address/]]) {
     const found = said(typed);
     assert.match(found.verdict, verdict, typed);
     assert.match(found.notes.join(' '), /^The “[A-Za-z]+:” before it was left out\./, typed);
@@ -323,7 +325,7 @@ test('what is right is read as it is, whatever it looks like', () => {
 
 test('what looks like several texts or seed words, and is not', () => {
   for (const typed of [V0.replace(/(....)/g, '$1 '), V0.toUpperCase().replace(/(....)/g, '$1 '), `pay ${V0}`, 'lnbc1 tb', 'one two three', 'a b c d']) {
-    assert.ok(!['warning', 'other'].includes(said(typed).tone), typed);
+    assert.deepEqual([said(typed).choices, said(typed).warnings], [undefined, undefined], typed);
   }
   assert.deepEqual(said(`${V0} ${V0}`).choices, [V0]);
   assert.deepEqual(said(`${V0}\n${TAPROOT}`).choices, [V0, TAPROOT]);
@@ -339,36 +341,47 @@ test('the columns of a beginning that was mended', () => {
   assert.equal(columns(`bcc1${V0.slice(3)}`), 'bb cc c-! 11 qq');
 });
 
-test('faults that no correction mends', () => {
+test('faults of known kinds that no correction mends', () => {
   for (const [typed, sentence, marked] of [
-    ['qpzry', 'There is no separator “1” in the text.', []],
-    ['abc', /^Character 2, “b”, may not stand here/, [1]],
-    ['1qqqqqq', /^Nothing stands before the separator/, [0]],
-    ['a1qqqqq', /^5 characters stand behind the last “1”/, [1]],
-    ['bc?qw508d6', /^Character 3, “\?”, may not stand here/, [2]],
-    ['é1qqqqqq', /is not ASCII/, [0]],
-    [`a1${'q'.repeat(1022)}`, /^The text has 1,024 characters/, [1023]],
+    [`${V0.slice(0, 15)}bb${V0.slice(17, 30)}bb${V0.slice(32)}`, /^Four characters are treated as unreadable/, [15, 16, 30, 31]],
+    [`bc1${'q'.repeat(1022)}`, /^The text has 1,025 characters/, [1023]],
   ]) {
     const found = said(typed);
-    assert.equal(found.tone, 'wrong');
-    if (typeof sentence === 'string') assert.equal(found.verdict, sentence); else assert.match(found.verdict, sentence);
-    assert.deepEqual(found.marked, marked, typed);
-    assert.equal(found.warnings, undefined);
+    assert.deepEqual([found.tone, found.verdict, found.warnings, found.marked], ['wrong', 'This address is wrong; do not use it.', undefined, marked], typed);
+    assert.ok(found.said.some((one) => sentence.test(one)), typed);
+  }
+});
+
+test('a text of no known kind, or without the shape of one, is not called wrong', () => {
+  const foreign = 'This does not look like a Bech32 text, so this page cannot judge it.';
+  for (const typed of ['qpzry', 'abc', '1qqqqqq', 'a1qqqqq', 'bc?qw508d6', 'é1qqqqqq', 'Hello, is this thing on?', '?', 'one1two, 3/4', 'bc1<script>alert(1)</script>', 'u1AbCdEfGh2kMn',
+    'ms1 and lq1 are beginnings', '\ud800', '1'.repeat(31)]) {
+    const found = said(typed);
+    assert.deepEqual([found.tone, found.verdict, found.text, found.notes], ['other', foreign, undefined, []], typed);
+  }
+  assert.deepEqual(said('bc?qw508d6').said, ['It begins with “bc”. Bitcoin addresses begin with “bc1”, “tb1” or “bcrt1”.']);
+  assert.equal(said(`a1${'q'.repeat(1022)}`).tone, 'other');
+});
+
+test('what is typed so far is not called wrong', () => {
+  assert.equal(said('bc1qw').verdict, 'Five characters so far. An address of version 0 has 42 or 62.');
+  for (const whole of [V0, TAPROOT, 'tb1qw508d6qejxtdg4y5r3zarvary0c5xw7kxpjzsx', 'ltc1qw508d6qejxtdg4y5r3zarvary0c5xw7kgmn4n9'.slice(0, 9), SILENT]) {
+    for (let size = 1; size < whole.length - 1; size++) assert.notEqual(said(whole.slice(0, size)).tone, 'wrong', whole.slice(0, size));
   }
 });
 
 test('bad input gets a sentence', () => {
-  assert.match(said('q'.repeat(1 << 20)).verdict, /^This has 1,048,576 characters, which is too long/);
+  assert.match(said('q'.repeat(1 << 20)).verdict, /^This has 1,048,576 characters, which is more than this page reads, so it cannot judge this\./);
   const kelvin = said(V0.replaceAll('k', '\u212a'));
   assert.match(kelvin.verdict, /character 36 should be k, not the Kelvin sign, which looks like K \(U\+212A\)\./i);
   assert.equal(kelvin.offers[0].text, V0);
   assert.match(said(at(V0, 10, '\ud800')).verdict, /half of a character \(U\+D800\)/);
-  assert.match(said('\udc00').verdict, /half of a character \(U\+DC00\)/);
+  assert.match(said(at(V0, 10, '\udc00')).verdict, /half of a character \(U\+DC00\)/);
   const turned = said(`\u202e${V0.slice(0, 10)}\u200f${V0.slice(10)}\u202c`);
   assert.deepEqual(turned.notes, ['Invisible characters were left out: a mark of direction (U+202E), a right-to-left mark (U+200F), a mark of direction (U+202C).']);
   assert.equal(turned.tone, 'right');
-  assert.match(said('<img src=x onerror=alert(1)>').verdict, /are treated as unreadable/);
-  assert.match(said('bc1<script>alert(1)</script>').said[0], /^Ten characters are treated as unreadable: character 4, “<”; .*; and 7 more\. Letters and digits can stand there, but not/);
+  assert.equal(said('<img src=x onerror=alert(1)>').tone, 'other');
+  assert.match(said(`${V0}<b>${V0.slice(3)}o</b>`).said.join(' '), /Eight characters are treated as unreadable: character 43, “<”; .*; and 5 more\. Letters and digits can stand there, but not/);
   assert.match(said('1\u{1f600}'.repeat(600)).verdict, /./);
 });
 
@@ -450,7 +463,7 @@ test('what is said of each string of a set', () => {
   const [right, mended, wrong] = said(`${CASH.a}\n${at(CASH.c, 10, 'q')}\n${CASH.d.slice(0, 20)}qqqqqqqqq${CASH.d.slice(29)}`).strings;
   assert.deepEqual(right, { title: 'String 1: share “a”', tone: 'right', said: ['Threshold 3, identifier “cash”, share index “a”, 48 characters with a payload of 16 bytes.'] });
   assert.deepEqual([mended.tone, mended.headline, mended.offers.length, mended.offers[0].text, placesOf(mended.offers[0])], ['mended', `Character 11 should be ${CASH.c[10]}, not q.`, 1, CASH.c, [10]]);
-  assert.deepEqual([wrong.title, wrong.tone, wrong.headline, wrong.marked], ['String 3 cannot be read', 'wrong', 'No correction was found.', []]);
+  assert.deepEqual([wrong.title, wrong.tone, wrong.headline, wrong.marked], ['String 3 cannot be read', 'wrong', 'This string is wrong; do not use it.', []]);
   assert.match(spoken(said(`${CASH.a}\n${CASH.c}`)), /^One more share is needed: the threshold is 3\. Type them only on a computer.* String 1: share “a”\. Threshold 3.* String 2: share “c”\. Threshold 3/);
 });
 

@@ -4,6 +4,7 @@ import assert from 'node:assert/strict';
 import fs from 'node:fs';
 import os from 'node:os';
 import path from 'node:path';
+import { gzipSync } from 'node:zlib';
 import { execFileSync, spawnSync } from 'node:child_process';
 import { fileURLToPath } from 'node:url';
 
@@ -56,7 +57,9 @@ test('it installs without network, and its README is so', withNpm, () => inFolde
   assert.ok(readme.includes(`${name}-${version}.tgz`));
 }));
 
-const USE = `import { ALPHABET, BAD_ROW, checkMany, message, NULL_ROW, OTHER_HRP, type Column, type Rows, encode, decode, decodeElements, decodeStrict, encodeElements, type AnyChecksum, check, correct, nearEdits, segwit, codex32, isLowered, Refused, Stopped, type Checksum, type Code, type Correction, type Edit, type NearEdit, type SecretText } from '${name}';
+const USE = `import { ALPHABET, BAD_ROW, checkMany, message, NULL_ROW, OTHER_HRP, type Column, type Rows, encode, decode, decodeElements, decodeStrict, encodeElements, fromWords, toWords, type AnyChecksum, check, correct, nearEdits, segwit, codex32, isLowered, Refused, Stopped, type Checksum, type Code, type Correction, type Edit, type NearEdit, type SecretText } from '${name}';
+import * as small from '${name}/bech32';
+const words: Uint8Array = small.fromWords([...toWords(new Uint8Array(5)), 0]), network: string = small.segwit.decode('a', 'bc').hrp + segwit.decode('a', null).hrp, smaller: small.Checksum = 'bech32';
 const checksum: Checksum = decode('a').checksum;
 const text: string = encode(checksum, 'a', new Uint8Array());
 const { hrp, data }: { hrp: string; data: string } = check('bech32', text);
@@ -80,6 +83,12 @@ const decoded: { numbers: Uint8Array; versions: Uint8Array; hrpLengths: Uint8Arr
 const addresses: Rows<string> = segwit.encodeMany('bc', decoded.versions, decoded.programs).texts, address: string | null | undefined = addresses.at(-1);
 console.log([NULL_ROW, BAD_ROW, OTHER_HRP].map(message), address, checkMany('bech32', addresses), addresses.toArray().concat([...addresses]), rows);
 // @ts-expect-error
+small.codex32;
+// @ts-expect-error
+segwit.decode('a', 5);
+// @ts-expect-error
+fromWords('qpzry');
+// @ts-expect-error
 checkMany('bech32', 'a12uel5l'.length);
 // @ts-expect-error
 encode('bech33', 'a', new Uint8Array());
@@ -93,7 +102,7 @@ codex32.encodePayload(2, 'test', 'a', 5);
 codex32.split('secret', 2, 3);
 // @ts-expect-error
 const wrong: string[] = codex32.split(bytes, 2, 3, null, { into: Uint8Array });
-console.log(place, version, parts, lowered, derived, kept, characters, whole, wrong);
+console.log(words, network, smaller, fromWords, place, version, parts, lowered, derived, kept, characters, whole, wrong);
 `;
 
 const withTypes = withNpm.skip ? withNpm : has('tsc') ? {} : { skip: 'TypeScript (tsc) is not installed here, so the types were not tried' };
@@ -110,6 +119,63 @@ test('what it exports is what its types name', async () => {
   const named = [...types.matchAll(/^export (?:class|const|function) (\w+)/gm)].map(([, it]) => it);
   const exported = Object.keys(await import('../out/package/index.js'));
   assert.deepEqual(exported.sort(), named.sort());
+});
+
+// The files that one of the package imports, and those that these import.
+const reached = (file, seen = new Set()) => {
+  if (seen.has(file)) return seen;
+  seen.add(file);
+  const source = fs.readFileSync(path.join(PACKAGE, file), 'utf8');
+  for (const [, other] of source.matchAll(/^(?:import|export) .* from '\.\/([^']+)';$/gm)) reached(other, seen);
+  return seen;
+};
+
+test('the smaller entrance has all but codex32, and not its module', async () => {
+  const small = await import('../out/package/bech32.js'), all = await import('../out/package/index.js');
+  assert.deepEqual([...Object.keys(small), 'codex32'].sort(), Object.keys(all).sort());
+  for (const it of Object.keys(small)) assert.equal(small[it], all[it], it);
+  const named = fs.readFileSync(path.join(PACKAGE, 'bech32.d.ts'), 'utf8').match(/(?<=export \{)[^}]+/)[0].split(',').map((it) => it.trim()).filter(Boolean);
+  assert.deepEqual(named.sort(), Object.keys(small).sort());
+  assert.ok(reached('index.js').has('codex32_module.js'));
+  assert.ok(!reached('bech32.js').has('codex32_module.js') && reached('bech32.js').has('bech32_module.js'));
+});
+
+const megabytes = (bytes) => `${(bytes / 1e6).toFixed(1)} MB`;
+const sizeOf = (files) => [...files].reduce((sum, it) => sum + fs.statSync(path.join(PACKAGE, it)).size, 0);
+
+test('README says how large it is', () => {
+  const zipped = (files) => [...files].reduce((sum, it) => sum + gzipSync(fs.readFileSync(path.join(PACKAGE, it)), { level: 9 }).length, 0);
+  for (const entrance of ['index.js', 'bech32.js']) {
+    const files = reached(entrance), said = `${megabytes(sizeOf(files))}, or ${megabytes(zipped(files))} by gzip`;
+    assert.ok(readme.includes(said), `${entrance}: ${said}`);
+  }
+});
+
+// Node from 20.19 and 22.12 on loads an ES module by require.
+const [major, minor] = process.versions.node.split('.').map(Number);
+const requires = major > 22 || (major === 22 && minor >= 12) || (major === 20 && minor >= 19);
+
+test('CommonJS takes it by import(), and by require where Node does that', () => inFolder((folder) => {
+  const modules = path.join(folder, 'node_modules');
+  fs.mkdirSync(modules);
+  fs.cpSync(PACKAGE, path.join(modules, name), { recursive: true });
+  const said = (code) => {
+    fs.writeFileSync(path.join(folder, 'use.cjs'), code);
+    return execFileSync(process.execPath, [...process.execArgv, 'use.cjs'], { cwd: folder, encoding: 'utf8', stdio: ['ignore', 'pipe', 'ignore'] });
+  };
+  const tried = "it.segwit.decode('BC1QW508D6QEJXTDG4Y5R3ZARVARY0C5XW7KV8F3T4', 'bc').version";
+  for (const entrance of [name, `${name}/bech32`]) {
+    assert.equal(said(`import('${entrance}').then((it) => console.log(${tried}));`), '0\n');
+    if (requires) assert.equal(said(`const it = require('${entrance}'); console.log(${tried});`), '0\n');
+  }
+}));
+
+test('a policy of the page has to allow WebAssembly, and nothing else is loaded', () => {
+  assert.match(readme, /script-src 'self' 'wasm-unsafe-eval'/);
+  for (const file of reached('index.js')) {
+    const source = fs.readFileSync(path.join(PACKAGE, file), 'utf8').replace(/^(?:import|export) .* from '[^']+';$/gm, '');
+    assert.doesNotMatch(source, /\bfetch\(|import\.meta|\brequire\(|\bimport\(|\beval\(|new Function/, file);
+  }
 });
 
 test('putting it together twice gives the same bytes', () => inFolder((folder) => {

@@ -81,8 +81,8 @@ const copiedByKey = async (page) => {
 
 // A kind of text, what is said of it, and the characters that are struck out and mended.
 const KINDS = [
-  ['an address', V0, /This is a valid Bech32 address\.[^]*segwit address of Bitcoin[^]*Witness version 0, program of 20 bytes:\s+751e 76e8 1991 96d4 5494 1c45 d1b3 a323 f143 3bd6/, '', ''],
-  ['an address behind bitcoin:', `BITCOIN:${V0.toUpperCase()}`, /This is a valid Bech32 address[^]*The “BITCOIN:” before it was left out/, '', ''],
+  ['an address', V0, /This is a valid Bitcoin address\.[^]*segwit address of Bitcoin\. Its Bech32 checksum is right/, '', ''],
+  ['an address behind bitcoin:', `BITCOIN:${V0.toUpperCase()}`, /This is a valid Bitcoin address[^]*The “BITCOIN:” before it was left out/, '', ''],
   ['a payment text', 'a1lqfn3a', /This is a valid Bech32m text/, '', ''],
   ['one wrong character', DAMAGED, /Character 28 should be r, not t\.[^]*Compare this with the source[^]*As typed, the checksum is wrong/, 't', 'r'],
   ['a character that cannot be read', `${V0.slice(0, 27)}?${V0.slice(28)}`, /The unreadable character 28 is r\.[^]*Compare this with the source/, '?', 'r'],
@@ -90,23 +90,26 @@ const KINDS = [
   ['a missing character', V0.slice(0, 20) + V0.slice(21), /One character is missing: r, as character 21\.[^]*Compare this with the source[^]*41 characters\. An address of version 0 has 42 or 62/, '', 'r'],
   ['a character too many', `${V0.slice(0, 27)}r${V0.slice(27)}`, /One character is too many: character 29, r\.[^]*Compare this with the source/, 'r', ''],
   ['two that were swapped', `${V0.slice(0, 22)}az${V0.slice(24)}`, /Two neighbours are swapped: characters 23 and 24 should be za, not az\.[^]*Compare this with the source/, 'az', 'za'],
-  ['three wrong characters', `${V0.slice(0, 11)}qq${V0.slice(13, 20)}q${V0.slice(21)}`, /No correction was found\./, '', ''],
+  ['three wrong characters', `${V0.slice(0, 11)}qq${V0.slice(13, 20)}q${V0.slice(21)}`, /^\W*This address is wrong; do not use it\.[^]*No correction was found\./, '', ''],
   ['a character that is no data', `${V0.slice(0, 27)}b${V0.slice(28)}`, /Character 28, “b”, is treated as unreadable/, 'b', 'r'],
   ['a missing beginning', V0.slice(3), /The beginning bc1 is missing\./, '', 'bc1'],
-  ['no separator', 'qpzry', /There is no separator “1” in the text\./, '', ''],
+  ['no separator', 'qpzry', /^\W*This does not look like a Bech32 text, so this page cannot judge it\.$/, '', ''],
+  ['a Dogecoin address', 'DH5yaieqoZN36fDVciNyRueRGvGLR3mr7L', /^\W*This looks like a Dogecoin address\./, '', ''],
+  ['a Core Lightning secret', 'cl10leetsllhdmn9m42vcsamx24zrxgs3qrl7ahwvhw4fnzrhve25gvezzyqqjdsjnzedu43ns', /This is a valid Core Lightning secret/, '', ''],
   ['a codex32 string', STRING, /This is a valid codex32 string/, '', ''],
   ['an offer', 'lno1pqps7sjqpgtyzm3qv4uxzmtsd3jjqer9wd3hy6tsw35k7msj', /begins like a Lightning offer \(BOLT12\), which has no checksum/, '', ''],
-  ['a link with two parts', `bitcoin:${V0}?lno=lno1pqps7sjqpgtyzm3qv4uxzmtsd3jjqer9wd3hy6tsw35k7msj`, /This link names two ways to pay\.[^]*The address\s+This is a valid Bech32 address[^]*The Lightning offer \(lno=\)\s+This begins like a Lightning offer/, '', ''],
+  ['a link with two parts', `bitcoin:${V0}?lno=lno1pqps7sjqpgtyzm3qv4uxzmtsd3jjqer9wd3hy6tsw35k7msj`, /This link names two ways to pay\.[^]*The address\s+This is a valid Bitcoin address[^]*The Lightning offer \(lno=\)\s+This begins like a Lightning offer/, '', ''],
   ['a damaged codex32 string', `${STRING.slice(0, 20)}qq?${STRING.slice(23)}`, /should be x, not q\. The unreadable character 23 is x[^]*Compare this with the source/, 'qq?', 'xxx'],
 ];
 
 const HOSTILE = [
-  ['a text of a megabyte', 'q'.repeat(1 << 20), /has 1,048,576 characters, which is too long/],
+  ['a text of a megabyte', 'q'.repeat(1 << 20), /has 1,048,576 characters, which is more than this page reads/],
   ['a lone surrogate', 'bc1\ud800qqqqqqqq', /half of a character \(U\+D800\)/],
   ['a right-to-left mark', `bc1q\u200f${V0.slice(4)}`, /Invisible characters were left out: a right-to-left mark \(U\+200F\)/],
   ['the Kelvin sign', V0.replaceAll('k', '\u212a'), /the Kelvin sign, which looks like K/],
-  ['markup', 'bc1<img src=x onerror="window.ran=1"><script>window.ran=1</script>', /treated as unreadable/],
-  ['markup in a human-readable part', '<script>window.ran=1</script>1qqqqqq', /the checksum is wrong for both Bech32m and Bech32/],
+  ['markup', 'bc1<img src=x onerror="window.ran=1"><script>window.ran=1</script>', /does not look like a Bech32 text/],
+  ['markup in an address', `${V0}<i><b><img>${V0.slice(3)}${V0.slice(3)}${V0.slice(3)}`, /treated as unreadable/],
+  ['markup in a human-readable part', '<script>window.ran=1</script>1qqqqqq', /does not know texts that begin with “<script>window.ran=1<\/script>1”/],
 ];
 
 const byteOf = (word) => Buffer.from(source).indexOf(word);
@@ -127,7 +130,9 @@ const PICTURES = [
   ...[['missing', 'a missing character'], ['too-many', 'a character too many'], ['swapped', 'two that were swapped']].map(([name, kind]) => [name, KINDS.find(([it]) => it === kind)[1]]),
   ['weak', WRONG.find(([name]) => name === 'a missing q before the last p')[1]], ['open', V0.slice(0, 20)], ['warning', 'abandon ability able about above'], ['several', `${V0} ${DAMAGED}`],
   ['codex32', KINDS.at(-1)[1]], ['link', KINDS.at(-2)[1]], ['offer', KINDS.at(-3)[1]], ['secret', NSEC], ['secret-mended', `${NSEC.slice(0, 40)}q${NSEC.slice(41)}`],
-  ['taproot', 'bc1p0xlxvlhemja6c4dqv22uapctqupfhlxm9h8z3k2e72q4k9hcz7vqzk5jj0'], ['refused', HOSTILE[4][1]], ['set', `${CASH.a}\n${CASH.c.slice(0, 20)}q?${CASH.c.slice(22)}\n${CASH.d.slice(0, 47)}`],
+  ['foreign', 'Hello, is this thing on?'], ['dogecoin', 'DH5yaieqoZN36fDVciNyRueRGvGLR3mr7L'], ['unknown-part', 'abcd1qqqqqqqqqqqqqqqqqqqqqq'], ['lightning-secret', 'cl10leetsllhdmn9m42vcsamx24zrxgs3qrl7ahwvhw4fnzrhve25gvezzyqqjdsjnzedu43ns'],
+  ['mini-key', 'S6c56bnXQiBjk9mqSYE7ykVQ7NzrRy'], ['testnet', 'tb1qw508d6qejxtdg4y5r3zarvary0c5xw7kxpjzsx'], ['long', `lnbc1${'q'.repeat(7683)}`], ['begun', V0.slice(0, 5)],
+  ['taproot', 'bc1p0xlxvlhemja6c4dqv22uapctqupfhlxm9h8z3k2e72q4k9hcz7vqzk5jj0'], ['refused', HOSTILE[5][1]], ['set', `${CASH.a}\n${CASH.c.slice(0, 20)}q?${CASH.c.slice(22)}\n${CASH.d.slice(0, 47)}`],
 ];
 
 // A set that gives its secret, which is then shown.
@@ -174,6 +179,24 @@ const common = (browser) => async (t, page) => {
     const { numbers, groups } = await shownFor(page, DAMAGED);
     assert.deepEqual(numbers, ['1', '5', '9', '13', '17', '21', '25', '29', '33', '37', '41']);
     assert.equal(groups.join(' '), V0.replace(/(....)(?=.)/g, '$1 '));
+  });
+  await t.test('the bytes of an address stand behind a button, and are spoken to nobody before it is pressed', async () => {
+    const bytes = '751e 76e8 1991 96d4 5494 1c45 d1b3 a323 f143 3bd6', read = 'const it = document.querySelector(".bytes"); return [it.textContent, it.getAttribute("aria-expanded"), document.getElementById("answer").innerText.includes(arguments[0])];';
+    await page.visit(PAGE);
+    await shownFor(page, V0);
+    await isSpoken(page);
+    assert.doesNotMatch(await page.evaluate('return document.getElementById("spoken").textContent;'), /751e|Witness/);
+    assert.deepEqual(await page.evaluate(read, bytes), ['Show its bytes in base 16', 'false', false]);
+    await page.evaluate('document.querySelector(".bytes").focus();');
+    await page.press('Enter');
+    assert.deepEqual(await page.evaluate(read, bytes), ['Hide its bytes in base 16', 'true', true]);
+    await page.press('Enter');
+    assert.deepEqual(await page.evaluate(read, bytes), ['Show its bytes in base 16', 'false', false]);
+  });
+  await t.test('what is selected has no places and nothing that was struck out', async () => {
+    await shownFor(page, DAMAGED);
+    const selected = 'getSelection().selectAllChildren(document.querySelector(".rows")); return getSelection().toString().replace(/\\s/g, "");';
+    assert.equal(await page.evaluate(selected), V0);
   });
   await t.test('a button copies the mended text', async () => {
     for (const [text, copied] of [[DAMAGED, V0], [`bitcoin:${V0}?amount=1`, V0]]) {
@@ -271,6 +294,8 @@ const common = (browser) => async (t, page) => {
     await page.press('Tab');
     assert.equal(await page.evaluate('return document.activeElement.className;'), 'copy');
     await page.press('Tab');
+    assert.equal(await page.evaluate('return document.activeElement.className;'), 'bytes');
+    await page.press('Tab');
     assert.equal(await focused(), 'SUMMARY');
     await page.press('Enter');
     assert.ok(await page.evaluate('return document.querySelector("details").open;'));
@@ -279,7 +304,7 @@ const common = (browser) => async (t, page) => {
     await shownFor(page, DAMAGED);
     const spoken = 'return document.getElementById("spoken").textContent;';
     assert.equal(await page.evaluate(spoken), '');
-    assert.match(await until(async () => (await page.evaluate(spoken)) || null, 'spoken answer', 5), /^Character 28 should be r, not t\. Compare this with the source.* With this change it is a valid Bech32 address\..*As typed, the checksum is wrong/);
+    assert.match(await until(async () => (await page.evaluate(spoken)) || null, 'spoken answer', 5), /^Character 28 should be r, not t\. Compare this with the source.* With this change it is a valid Bitcoin address\..*As typed, the checksum is wrong/);
     assert.deepEqual(await page.evaluate('const it = document.getElementById("spoken"); return [it.getAttribute("role"), it.getAttribute("aria-live"), document.querySelector(".rows").getAttribute("aria-hidden"), document.querySelector("label").control.id];'), ['status', 'polite', 'true', 'typed']);
   });
   await t.test('no text stands in the address, the history or a store', async () => {
@@ -314,7 +339,7 @@ const common = (browser) => async (t, page) => {
       });
     }
     await withChanged(page, source, byteOf(':root {') + 1, async () => {
-      assert.match((await shownFor(page, V0)).text, /This is a valid Bech32 address/);
+      assert.match((await shownFor(page, V0)).text, /This is a valid Bitcoin address/);
       assert.equal(await page.evaluate('return getComputedStyle(document.querySelector("summary")).cursor;') === 'pointer', false);
     });
   });
@@ -332,11 +357,19 @@ const common = (browser) => async (t, page) => {
       }
     });
     await t.test(`the field shows all that is in it, on a ${device}`, async () => {
-      for (const text of ['', V0, strings(CASH, 'acdef'), 'q'.repeat(1023), `${V0}\n\n\n\n\n`, V0]) {
+      for (const text of ['', V0, strings(CASH, 'acdef'), 'q'.repeat(140), `${V0}\n\n\n\n\n`, V0]) {
         await shownFor(page, text);
         const [high, seen, inner] = await page.evaluate('const it = document.getElementById("typed"); return [it.scrollHeight, it.clientHeight, it.offsetHeight];');
         assert.ok(high <= seen, `${text.length}: ${high} of ${seen}`);
         assert.ok(text.length > 60 || inner < 160, `${inner}`);
+      }
+    });
+    await t.test(`the verdict on a long text is seen at once, on a ${device}`, async () => {
+      await page.size(width, 844);
+      for (const text of [`lnbc1${'q'.repeat(7683)}`, `${V0}\n`.repeat(60)]) {
+        await shownFor(page, text);
+        const [top, height, isScrolled] = await page.evaluate('window.scrollTo(0, 0); const it = document.getElementById("typed"); return [document.querySelector(".verdict").getBoundingClientRect().bottom, it.offsetHeight, it.scrollHeight > it.clientHeight];');
+        assert.ok(top <= 844 && height <= 300 && isScrolled, `${text.length}: ${top}, ${height}, ${isScrolled}`);
       }
     });
     await t.test(`it fits the width of a ${device}`, async () => {
@@ -386,6 +419,11 @@ inBrowser(chromium, async (t, page) => {
     assert.ok(nodes.some(({ role, name }) => role === 'button' && name === 'Copy it'));
     assert.ok(nodes.some(({ role, name }) => role === 'heading' && /^Character 28 should be r/.test(name)));
     assert.ok(!nodes.some(({ role, name }) => role === 'StaticText' && /^[a-z0-9]$/.test(name)));
+    await shownFor(page, V0);
+    const right = await page.accessible(), digits = ({ name }) => /751e|Witness version/.test(name);
+    assert.ok(right.some(({ role, name }) => role === 'button' && name === 'Show its bytes in base 16') && !right.some(digits));
+    await page.evaluate('document.querySelector(".bytes").click();');
+    assert.ok((await page.accessible()).some(digits));
   });
   await t.test('the button copies where the browser has no newer way', async () => {
     const undo = await page.before('delete Navigator.prototype.clipboard;');
@@ -409,7 +447,7 @@ inBrowser(chromium, async (t, page) => {
       };`);
     await page.visit(PAGE);
     assert.match((await shownFor(page, V0)).text, /The library stopped without an answer and was started again/);
-    assert.match((await shownFor(page, V0)).text, /This is a valid Bech32 address/);
+    assert.match((await shownFor(page, V0)).text, /This is a valid Bitcoin address/);
     await undo();
   });
   await t.test('without 64-bit memory the lowered modules answer, and it says so', async () => {

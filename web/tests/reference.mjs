@@ -69,10 +69,14 @@ const valuesOf = (data) => Array.from(data, (c) => ALPHABET.indexOf(c));
 const CODEX32_START = 0x23181b3n;
 const acceptedBy = (checksum) => (text) => remainderBy(checksum, valuesOf(text.slice(3)), CODEX32_START) === checksum.target;
 
-/** The codex32 string of a header and a payload, in lower case, with its checksum of 13 characters. */
-export const stringOf = (data) => {
-  const sum = remainderBy(CODEX32, [...valuesOf(data), ...Array(13).fill(0)], CODEX32_START) ^ CODEX32.target;
-  return `ms1${data}${charactersOf(sum, 13)}`;
+/**
+ * The codex32 string of a header and a payload, in lower case, with its checksum of 13 characters; the human-readable part is
+ * that of BIP-93 or another.
+ */
+export const stringOf = (data, hrp = 'ms') => {
+  const start = remainderBy(CODEX32, expanded(hrp), 1n);
+  const sum = remainderBy(CODEX32, [...valuesOf(data), ...Array(13).fill(0)], start) ^ CODEX32.target;
+  return `${hrp}1${data}${charactersOf(sum, 13)}`;
 };
 
 /** Whether the codex32 checksum accepts a text in lower case that begins with `ms1`. */

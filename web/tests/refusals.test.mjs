@@ -2,7 +2,7 @@
 import test from 'node:test';
 import assert from 'node:assert/strict';
 import fs from 'node:fs';
-import { Refused, check, codex32, correct, decode, decodeElements, decodeStrict, descriptor, encode, encodeElements, liquid, segwit } from '../out/package/index.js';
+import { Refused, check, codex32, correct, decode, decodeElements, decodeStrict, descriptor, encode, encodeElements, fromWords, liquid, segwit } from '../out/package/index.js';
 import { ALPHABET } from './reference.mjs';
 import { blechText } from './right-texts.mjs';
 
@@ -75,6 +75,15 @@ const CASES = [
   [() => segwit.decode('bc1pw5dgrnzv'), 'PROGRAM_TOO_SHORT', null, 'The program has 1 byte; it has at least 2.'],
   [() => segwit.decode('bc1p0xlxvlhemja6c4dqv22uapctqupfhlxm9h8z3k2e72q4k9hcz7v8n0nx0muaewav253zgeav'), 'PROGRAM_TOO_LONG', null, 'The program has 41 bytes; it has at most 40.'],
   [() => segwit.decode('BC1QR508D6QEJXTDG4Y5R3ZARVARYV98GJ9P'), 'PROGRAM_NOT_V0', null, 'The program has 16 bytes; in version 0 it has 20 or 32.'],
+  [() => segwit.decode('BC1QW508D6QEJXTDG4Y5R3ZARVARY0C5XW7KV8F3T4', 'tb'), 'OTHER_HRP', null, 'The human-readable part is “BC”, and “tb” is wanted.'],
+  [() => segwit.decode('BC1QW508D6QEJXTDG4Y5R3ZARVARY0C5XW7KV8F3T5', 'tb'), 'WRONG_CHECKSUM', null, 'The checksum is wrong: an address of version 0 has a Bech32 checksum.'],
+  [() => segwit.decode('bc1q', ''), 'HRP_EMPTY', 0, 'Nothing stands before the separator “1”: the human-readable part is missing.'],
+  [() => segwit.decode('bc1q', 'tB'), 'HRP_MIXED_CASE', 1, 'Character 2, “B”, is an upper-case letter, and a lower-case one stands before it: all letters have one case.'],
+  [() => fromWords([0, 31, 40, 33]), 'BAD_ELEMENT', 2, 'The element at the place 2 is 40; elements are from 0 to 31.'],
+  [() => fromWords([...Array(7040).fill(0), 0, 33]), 'BAD_ELEMENT', 7041, 'The element at the place 7041 is 33; elements are from 0 to 31.'],
+  [() => fromWords([0]), 'PADDING_TOO_LONG', 0, 'The last element is one too many: 5 bits follow the last whole byte, and at most four may.'],
+  [() => fromWords(new Uint8Array(7043)), 'PADDING_TOO_LONG', 7042, 'The last element is one too many: 7 bits follow the last whole byte, and at most four may.'],
+  [() => fromWords(Uint8Array.of(31, 31)), 'PADDING_NOT_ZERO', 1, 'The last element has bits after the last whole byte that are not zero.'],
   [() => segwit.encode('bc', 17, new Uint8Array(2)), 'ENCODED_BAD_VERSION', null, 'The witness version is 17; versions are from 0 to 16.'],
   [() => segwit.encode('bc', 1, new Uint8Array(1)), 'PROGRAM_TOO_SHORT', null, 'The program has 1 byte; it has at least 2.'],
   [() => segwit.encode('bc', 1, new Uint8Array(5000)), 'PROGRAM_TOO_LONG', null, 'The program has 5,000 bytes; it has at most 40.'],

@@ -1,7 +1,8 @@
 // Right texts of every kind that people put in, made here: none of them may be answered by a correction. What has no checksum
-// of the library is made by encoders of its own: Blech32 of Liquid, descriptors, CashAddr and Kaspa, base 58.
-import { createHash } from 'node:crypto';
+// of the library is made by encoders of its own: Blech32 of Liquid, descriptors, CashAddr and Kaspa here, others in
+// other-kinds.mjs.
 import { ALPHABET, charactersOf, dataOf, numbersFrom, remainderBy, stringOf, textOf } from './reference.mjs';
+import { OTHER_KINDS, base58check as base58 } from './other-kinds.mjs';
 
 /** How many texts of each kind are typed. */
 export const COUNT = 60;
@@ -48,16 +49,6 @@ export const withDescriptorSum = (text) => {
   return `${text}#${charactersOf(remainderBy(DESCRIPTOR, [...values, ...Array(8).fill(0)], 1n) ^ 1n, 8)}`;
 };
 
-const BASE58 = '123456789ABCDEFGHJKLMNPQRSTUVWXYZabcdefghijkmnopqrstuvwxyz';
-const sha256 = (bytes) => createHash('sha256').update(bytes).digest();
-
-const base58 = (bytes) => {
-  const all = [...bytes, ...sha256(sha256(Uint8Array.from(bytes))).subarray(0, 4)];
-  let number = BigInt(`0x${Buffer.from(all).toString('hex')}`), text = '';
-  for (; number > 0n; number /= 58n) text = BASE58[Number(number % 58n)] + text;
-  return '1'.repeat(all.findIndex((it) => it !== 0)) + text;
-};
-
 // ---- kinds
 
 const random = (below, length) => Array.from({ length }, () => below(256));
@@ -86,7 +77,7 @@ const invoice = (network, least, most) => (below) => anyText('bech32', `ln${netw
 const WORDS = 'abandon ability able about above absent absorb abstract absurd abuse access accident zebra zero zone zoo'.split(' ');
 
 const RIGHT = 'right', OTHER = 'other', WARNING = 'warning';
-const ADDRESS = /^This is a valid Bech32m? address\./, OFFER = /which has no checksum/, CONFIDENTIAL = /^This is a valid confidential address of Liquid\./;
+const ADDRESS = /^This is a valid (?:Bitcoin|Bitcoin testnet|Bitcoin regtest|Litecoin|Liquid|Liquid testnet) address\./, FOREIGN = /^This does not look like a Bech32 text, so this page cannot judge it\.$/, OFFER = /which has no checksum/, CONFIDENTIAL = /^This is a valid confidential address of (?:Liquid|a local Liquid network|the Liquid test network)\./;
 const DESCRIBES = /^This is a descriptor, and its checksum is right\./;
 const known = (what) => new RegExp(`^This is ${what}, and its Bech32m? checksum is right\\.`);
 const secret = (what) => new RegExp(`^This is a secret: ${what}\\.`);
@@ -133,18 +124,20 @@ export const KINDS_OF_TEXTS = [
   ['descriptors with a private key', (below) => withDescriptorSum(`pkh(${extended('0488ade4')(below)}/0/*)`), WARNING, /^This looks like a descriptor with a private key/],
   ['Kaspa addresses', (below) => cashText('kaspa', [0, ...random(below, 32)]), OTHER, /^This begins like a Kaspa address/], ['CashAddr', (below) => cashText('bitcoincash', [8 * below(2), ...random(below, 20)]), OTHER, /^This begins like a Bitcoin Cash address/],
   ['CashAddr in upper case', upper((below) => cashText('bitcoincash', [0, ...random(below, 20)])), OTHER, /^This begins like a Bitcoin Cash address/], ['eCash', (below) => cashText('ecash', [0, ...random(below, 20)]), OTHER, /^This begins like an eCash address/],
-  ['CashAddr without its code', (below) => cashText('bitcoincash', [0, ...random(below, 20)]).slice(12), 'wrong', /./], ['Kaspa without its code', (below) => cashText('kaspa', [0, ...random(below, 32)]).slice(6), 'wrong', /./],
+  ['CashAddr without its code', (below) => cashText('bitcoincash', [0, ...random(below, 20)]).slice(12), OTHER, FOREIGN], ['Kaspa without its code', (below) => cashText('kaspa', [0, ...random(below, 32)]).slice(6), OTHER, FOREIGN],
   ['older addresses', (below) => base58([0, ...random(below, 20)]), OTHER, /older kind/], ['older script addresses', (below) => base58([5, ...random(below, 20)]), OTHER, /older kind/],
   ['addresses of Ethereum', (below) => `0x${hex(below, 20)}`, OTHER, /0x/], ['extended public keys', extended('0488b21e'), OTHER, /extended public key/],
   ['extended private keys', (below) => extended(from(below, ['0488ade4', '049d7878', '04b2430c', '04358394']))(below), WARNING, /extended private key/],
   ['private keys', (below) => base58([128, ...random(below, 32), 1]), WARNING, /private key/], ['seed words', (below) => Array.from({ length: 12 + 3 * below(5) }, () => from(below, WORDS)).join(' '), WARNING, /seed words/],
+  ['Core Lightning secrets', (below) => stringOf(`0${characters(below, 4)}s${dataOf(random(below, 32))}`, 'cl'), RIGHT, /^This is a valid Core Lightning secret/],
   ['unshared codex32 secrets', share(0, 's'), RIGHT, /valid codex32 string/], ['codex32 shares', (below) => share(2 + below(8), from(below, ['a', 'c', 'd', '7']))(below), RIGHT, /valid codex32 string/],
   ['links for payments', (below) => `bitcoin:${program('bc', 1, 32)(below)}?amount=0.1`, RIGHT, ADDRESS], ['links of Lightning', (below) => `LIGHTNING:${upper(invoice('bc', 170, 400))(below)}`, RIGHT, known('a Lightning invoice')],
   ['links with an offer', (below) => `bitcoin:?lno=${offer('lno', 90, 300)(below)}`, OTHER, OFFER], ['links with a silent payment address', (below) => `BITCOIN:?SP=${textOf('bech32m', 'sp', `q${dataOf(random(below, 66))}`).toUpperCase()}`, RIGHT, known('a silent payment address')],
   ['links with several parts', (below) => `bitcoin:${program('bc', 0, 20)(below)}?lightning=${invoice('bc', 170, 300)(below)}&lno=${offer('lno', 90, 300)(below)}`, OTHER, /^This link names three ways to pay/],
   ['links of Liquid', (below) => `liquidnetwork:${confidential('lq', 0, 20)(below)}?amount=1`, RIGHT, CONFIDENTIAL], ['links of nostr', (below) => `nostr:${bytesText('bech32', 'npub', 32)(below)}`, RIGHT, known('a nostr public key')],
-  ['links of Zcash', (below) => `zcash:${anyText('bech32m', 'u', 100, 200)(below)}`, RIGHT, known('a unified Zcash address')], ['Stacks addresses', (below) => `SP1${Array.from({ length: 38 }, () => from(below, Array.from('0123456789ABCDEFGHJKMNPQRSTVWXYZ'))).join('')}`, OTHER, /Stacks/], ['Tezos addresses', (below) => base58([6, 161, 159, ...random(below, 20)]), 'wrong', /./],
-  ['addresses of payment servers', (below) => `OH1${characters(below, 55).toUpperCase()}`, 'wrong', /checksum is wrong/],
+  ['links of Zcash', (below) => `zcash:${anyText('bech32m', 'u', 100, 200)(below)}`, RIGHT, known('a unified Zcash address')], ['Stacks addresses', (below) => `SP1${Array.from({ length: 38 }, () => from(below, Array.from('0123456789ABCDEFGHJKMNPQRSTVWXYZ'))).join('')}`, OTHER, /Stacks/],
+  ['addresses of payment servers', (below) => `OH1${characters(below, 55).toUpperCase()}`, OTHER, /^This page does not know texts that begin with “oh1”/],
+  ...OTHER_KINDS,
 ];
 
 /** A number of texts of the kind at a place, the same at each run. */

@@ -210,17 +210,18 @@ test('a string that is corrected is offered, with a warning', () => {
 
 test('what cannot be added', () => {
   for (const [typed, sentence] of [
-    [CASH.a.slice(0, 20), /characters/], [put(CASH.a, ...[9, 12, 15, 18, 21].map((place) => [place, '?']), [24, 'q'], [27, 'q'], [30, 'q']), /No correction was found\./],
+    [CASH.a.slice(0, 20), /characters/], [put(CASH.a, ...[9, 12, 15, 18, 21].map((place) => [place, '?']), [24, 'q'], [27, 'q'], [30, 'q']), /^This string is wrong; do not use it\.$/],
     ['m', /^A codex32 string begins like this\.$/], ['MS1', /^A codex32 string begins like this\.$/],
     ['bc1qw508d6qejxtdg4y5r3zarvary0c5xw7kv8f3t4', /^This is not a codex32 string\. Those begin with ms1\.$/],
     ['bc1qw508d6qejxtdg4y5r3zarvaty0c5xw7kv8f3t4', /^This is not a codex32 string\./], ['b', /^This is not a codex32 string\./], [HEX, /^This is not a codex32 string\./],
     ['lno1pqps7sjqpgtyzm3qv4uxzmtsd3jjqer9wd3hy6tsw35k7msj', /^This is not a codex32 string\./],
     [strings(CASH, 'ac'), /^Several strings stand here\. Put them in one after another\.$/], [`${CASH.a} ${CASH.a}`, /^Several strings stand here\./],
     ['abandon ability able about', /^These look like seed words\./], ['nsec1vl029mgpspedva04g90vltkh6fvh240zqtv9k0t9af8935ke9laqsnlfe5', /^This is a secret: a nostr private key/],
-    ['q'.repeat(9000), /^This is not a codex32 string\./], [`ms1${'q'.repeat(9000)}`, /which is too long/],
+    ['q'.repeat(9000), /^This is not a codex32 string\./], [`ms1${'q'.repeat(9000)}`, /which is more than this page reads/], ['cl10leetsllhdmn9m42vcsamx24zrxgs3qrl7ahwvhw4fnzrhve25gvezzyqqjdsjnzedu43ns', /^This is not a codex32 string\. Those begin with ms1\.$/],
   ]) {
-    const { verdict, added } = said(typed);
+    const { verdict, added, tone } = said(typed);
     assert.match(verdict, sentence, typed.slice(0, 60));
+    assert.equal(tone === 'wrong', verdict.startsWith('This string is wrong'), typed.slice(0, 60));
     assert.equal(added, null, typed.slice(0, 60));
   }
   assert.equal(said(''), null);

@@ -1,8 +1,8 @@
 // Texts and addresses of every size, written and read.
 import test from 'node:test';
 import assert from 'node:assert/strict';
-import { check, decode, decodeElements, decodeStrict, encode, encodeElements, segwit } from '../out/package/index.js';
-import { accepts, numbersFrom } from './reference.mjs';
+import { check, decode, decodeElements, decodeStrict, encode, encodeElements, fromWords, segwit, toWords } from '../out/package/index.js';
+import { ALPHABET, accepts, dataOf, numbersFrom } from './reference.mjs';
 
 const below = numbersFrom(5);
 const random = (length) => Uint8Array.from({ length }, () => below(256));
@@ -36,6 +36,28 @@ test('addresses of every version and length are written and read', () => {
       assert.deepEqual(segwit.decode(text), { hrp: 'bc', version, program });
     }
   }
+});
+test('an address of the network that is wanted is read, in either case', () => {
+  const program = random(20), text = segwit.encode('bc', 0, program);
+  for (const [given, hrp] of [[text, 'bc'], [text, 'BC'], [text.toUpperCase(), 'bc'], [text, null], [text, undefined]]) {
+    assert.deepEqual(segwit.decode(given, hrp), { hrp: given.slice(0, 2), version: 0, program });
+  }
+  for (const hrp of ['tb', 'bcrt', 'b', 'c']) assert.throws(() => segwit.decode(text, hrp), { code: 'OTHER_HRP', place: null });
+  for (const hrp of [5, {}, ['bc']]) assert.throws(() => segwit.decode(text, hrp), TypeError);
+});
+
+test('bytes and elements are regrouped, of any number', () => {
+  const values = (data) => Uint8Array.from(data, (it) => ALPHABET.indexOf(it));
+  for (const length of [...Array(60).keys(), 4399, 4400, 4401, 4405, 8800, 13203]) {
+    const bytes = random(length), words = toWords(bytes);
+    assert.deepEqual(words, values(dataOf(bytes)), `${length}`);
+    assert.deepEqual([fromWords(words), fromWords([...words])], [bytes, bytes], `${length}`);
+    const unused = 5 * words.length - 8 * length;
+    if (unused > 0) assert.throws(() => fromWords([...words.slice(0, -1), words.at(-1) | 1]), { code: 'PADDING_NOT_ZERO', place: words.length - 1 });
+    assert.equal(words.length % 8 === 0, unused === 0);
+  }
+  for (const given of ['qpzry', [256], [-1], [0.5], ['0'], 5, null]) assert.throws(() => fromWords(given), TypeError, JSON.stringify(given));
+  for (const given of ['qpzry', [1], null]) assert.throws(() => toWords(given), TypeError);
 });
 
 const shortOf = { bech32: 'bech32', bech32m: 'bech32m', longBech32: 'bech32', longBech32m: 'bech32m' };

@@ -4,6 +4,8 @@ const V0 = 'bc1qw508d6qejxtdg4y5r3zarvary0c5xw7kv8f3t4';
 const TESTNET = 'tb1qw508d6qejxtdg4y5r3zarvary0c5xw7kxpjzsx';
 const TAPROOT = 'bc1p0xlxvlhemja6c4dqv22uapctqupfhlxm9h8z3k2e72q4k9hcz7vqzk5jj0';
 const STRING = 'ms10testsxxxxxxxxxxxxxxxxxxxxxxxxxx4nzvca9cmczlw';
+// From Core Lightning's own tests: its bytes are those of a secret of BIP-93.
+const LIGHTNING = 'cl10leetsllhdmn9m42vcsamx24zrxgs3qrl7ahwvhw4fnzrhve25gvezzyqqjdsjnzedu43ns';
 const INVOICE = 'lnbc2500u1qqj55mu5h80qx2zdw2tmecgx9dg8tx4lusyju5mcnhpwwrp32ea6p302pu69jl4rerk3yd6usxnvhuq48f0cf2ww7vvr6c584nglvx6'
   + 'qvk92l48erepk3rdj6l7zz3ntjz6a4leyf9hf8wxaqgn5cuvkh0sq22j06n3j23';
 
@@ -51,15 +53,15 @@ export const WRONG = [
   ['three that are not sure', put(V0, [10, '?'], [20, '?'], [30, '?']), /The unreadable characters are restored: 11 is q, 21 is r and 31 is c\./, V0],
   ['one wrong beside two that are not sure', put(V0, [10, '?'], [20, '?'], [40, 'q']), /Character 41 should be t, not q\. The unreadable characters are restored: 11 is q and 21 is r\./, V0],
   // Beside this many that are not sure, one wrong character or two would be found too often by chance.
-  ['one wrong beside three that are not sure', put(V0, [10, '?'], [20, '?'], [30, '?'], [40, 'q']), /No correction was found\.[^]*Three characters are unreadable\.[^]*Whatever the unreadable characters are, this is not a valid address\./, null],
+  ['one wrong beside three that are not sure', put(V0, [10, '?'], [20, '?'], [30, '?'], [40, 'q']), /^This address is wrong; do not use it\.[^]*No correction was found\.[^]*Three characters are unreadable\.[^]*Whatever the unreadable characters are, this is not a valid address\./, null],
   ['two wrong beside two that are not sure', put(V0, [10, '?'], [20, '?'], [30, 'q'], [40, 'q']), /No correction was found\.[^]*Whatever the unreadable characters are, no further change of one character makes it a valid address\./, null],
   ['two wrong beside one that is not sure', put(V0, [10, '?'], [30, 'q'], [40, 'q']), /No correction was found\.[^]*Whatever the unreadable character is, no further change of one character makes it a valid address\./, null],
   // One of each checksum: by either, no two are so near.
   ['two addresses that are near', 'bc1ppvc9275lcn5suv6c0k3v0mq3xedcpfw2au2rjh5r46xly9euvxrqf8e9l8', /Two addresses are close to this\. At most one of them is the one you want\./,
     'bc1ppvc9275lcn5s2v6c0k3v0yq3xedcpfw2au2rjh5r46xly9euvxrqf8e9l8'],
-  ['three wrong characters', put(V0, [11, 'q'], [20, 'q'], [30, 'q']), /No correction was found\.[^]*No change of one or two characters makes it a valid address\.[^]*Write \? for each character that you are not sure of\. Then more can be restored\./, null],
+  ['three wrong characters', put(V0, [11, 'q'], [20, 'q'], [30, 'q']), /^This address is wrong; do not use it\.[^]*No correction was found\.[^]*No change of one or two characters makes it a valid address\.[^]*Write \? for each character that you are not sure of\. Then more can be restored\./, null],
   ['four that cannot be read', `${V0.slice(0, 30)}????${V0.slice(34)}`, /No correction was found\.[^]*Four characters are unreadable\.[^]*At most three unreadable characters can be restored\./, null],
-  ['letters of both cases', `B${V0.slice(1)}`, /Upper-case and lower-case letters are mixed\. In lower case the text is valid\.[^]*In lower case it is a valid Bech32 address\./, V0],
+  ['letters of both cases', `B${V0.slice(1)}`, /Upper-case and lower-case letters are mixed\. In lower case the text is valid\.[^]*In lower case it is a valid Bitcoin address\./, V0],
 
   // A character missing, one too many, and two that were swapped.
   ...EDITED,
@@ -97,12 +99,12 @@ export const WRONG = [
   ['tbl', `tbl${TESTNET.slice(3)}`, /The beginning should be tb1, not tbl\./, TESTNET],
   ['rns1', `rns1${STRING.slice(3)}`, /The beginning should be ms1, not rns1\.[^]*whoever sees this string has the secret/, STRING],
   ['msl', `msl${STRING.slice(3)}`, /The beginning should be ms1, not msl\./, STRING],
-  ['bv1 that nothing mends', `bv1${put(DATA, [8, 'q'], [17, 'q'], [27, 'q'])}`, /As typed, the checksum is wrong for both Bech32m and Bech32\.[^]*This page does not know texts that begin with “bv1”, so it offers no correction\.[^]*It begins with “bv1”\. Bitcoin addresses begin with “bc1”, “tb1” or “bcrt1”\./, null],
+  ['bv1 that nothing mends', `bv1${put(DATA, [8, 'q'], [17, 'q'], [27, 'q'])}`, /^This page does not know texts that begin with “bv1”, so it cannot judge this one\.[^]*Neither Bech32m nor Bech32 accepts it\.[^]*It begins with “bv1”\. Bitcoin addresses begin with “bc1”, “tb1” or “bcrt1”\./, null],
 
   // Lengths.
   ['two characters less', V0.slice(0, -2), /40 characters so far\. An address of version 0 has 42 or 62\.[^]*If this is all of it, two characters are missing\./, null],
   ['the front of an address', V0.slice(0, 20), /20 characters so far\. An address of version 0 has 42 or 62\./, null],
-  ['two characters more', `${V0.slice(0, 20)}rr${V0.slice(20, 30)}q${V0.slice(30)}`.slice(0, 44), /44 characters\. An address of version 0 has 42 or 62\.[^]*Two characters may be too many\.[^]*Nor does leaving one out, adding one, or swapping two\./, null],
+  ['two characters more', `${V0.slice(0, 20)}rr${V0.slice(20, 30)}q${V0.slice(30)}`.slice(0, 44), /^This address is wrong; do not use it\.[^]*44 characters\. An address of version 0 has 42 or 62\.[^]*Two characters may be too many\.[^]*Nor does leaving one out, adding one, or swapping two\./, null],
   ['a shorter Taproot address', TAPROOT.slice(0, -2), /60 characters so far\. A Taproot address \(version 1\) has 62\.[^]*two characters are missing/, null],
   ['a Taproot address with two that are not sure, not all of it', put(TAPROOT, [10, '?'], [20, '?']).slice(0, 50), /50 characters so far\. A Taproot address \(version 1\) has 62\.[^]*Two characters are unreadable\.[^]*Whatever the unreadable characters are, this is not a valid address\./, null],
   ['bc', 'bc', /An address or a codex32 string begins like this\./, null],
@@ -117,7 +119,7 @@ export const WRONG = [
   ['seed words', 'abandon ability able about above absent absorb abstract absurd abuse access accident', /These look like seed words\. Do not type them into any page\.[^]*Clear the field now[^]*by their looks alone/, null],
   ['numbered seed words', '1. abandon\n2. ability\n3. able\n4. about', /These look like seed words\./, null],
   ['an invoice', put(INVOICE, [40, 'q']), /Character 41 should be 4, not q\.[^]*the Bech32 checksum is right\.[^]*It is a Lightning invoice\.[^]*but not its amount or its signature[^]*As typed, the Bech32 checksum is wrong/, INVOICE],
-  ['an invoice that nothing mends', put(INVOICE, [40, 'q'], [60, 'q'], [80, 'q'], [100, 'q']), /No correction was found\.[^]*As typed, the Bech32 checksum is wrong[^]*It begins like a Lightning invoice/, null],
+  ['an invoice that nothing mends', put(INVOICE, [40, 'q'], [60, 'q'], [80, 'q'], [100, 'q']), /^This text is wrong; do not use it\.[^]*No correction was found\.[^]*As typed, the Bech32 checksum is wrong[^]*It begins like a Lightning invoice/, null],
   ['a link with an amount', `bitcoin:${put(V0, [27, 't'])}?amount=0.5&label=For lunch`, /Character 28 should be r, not t[^]*The “bitcoin:” before it was left out\. The link also has other parts, such as an amount or a label\. They are not read here\./, V0],
   ['an amount without a scheme', `${put(V0, [27, 't'])}?amount=0.5`, /Character 28 should be r, not t[^]*What follows the “\?” was left out, since it is not part of the address/, V0],
   ['quotes around it', `“${put(V0, [27, 't'])}”`, /Character 28 should be r, not t[^]*The quotes or punctuation around it were left out\./, V0],
@@ -130,23 +132,33 @@ export const WRONG = [
 
   // What the page cannot test, with a mistake or none, and near to it.
   ['an offer with a character that cannot be there', 'lno1pqps7sjqpgtyzm3qb4uxzmtsd3jjqer9wd3hy6tsw35k7msj', /begins like a Lightning offer \(BOLT12\), which has no checksum\.[^]*Character 21, “b”, cannot be part of it\./, null],
-  ['an offer with a wrong beginning', 'ln01pqps7sjqpgtyzm3qv4uxzmtsd3jjqer9wd3hy6tsw35k7msj', /checksum is wrong for both Bech32m and Bech32\.[^]*does not know texts that begin with “ln01”/, null],
-  ['an offer with an l for its 1', 'lnolpqps7sjqpgtyzm3qv4uxzmtsd3jjqer9wd3hy6tsw35k7msj', /Character 3, “o”, may not stand here, and no separator “1” stands before it/, null],
+  ['an offer with a wrong beginning', 'ln01pqps7sjqpgtyzm3qv4uxzmtsd3jjqer9wd3hy6tsw35k7msj', /does not know texts that begin with “ln01”, so it cannot judge this one/, null],
+  ['an offer with an l for its 1', 'lnolpqps7sjqpgtyzm3qv4uxzmtsd3jjqer9wd3hy6tsw35k7msj', /^This does not look like a Bech32 text, so this page cannot judge it\./, null],
   ['a Liquid address with a wrong character', put(LIQUID, [20, 'q']), /Character 21 should be g, not q[^]*As typed, the Blech32 checksum is wrong\./, LIQUID],
   ['a Liquid address with three', put(LIQUID, [10, 'q'], [50, '3'], [90, 'y']), /Character 11 should be 7, not q; character 51 should be h, not 3; character 91 should be l, not y\./, LIQUID],
-  ['a Liquid address with four', put(LIQUID, [10, 'q'], [50, '3'], [70, 'q'], [90, 'y']), /No correction was found\.[^]*More than three characters are wrong/, null],
+  ['a Liquid address with four', put(LIQUID, [10, 'q'], [50, '3'], [70, 'q'], [90, 'y']), /^This address is wrong; do not use it\.[^]*No correction was found\.[^]*More than three characters are wrong/, null],
   ['a Liquid address with unreadable characters', put(LIQUID, [5, '?'], [17, '?'], [29, '?'], [41, '?'], [53, '?'], [65, '?']), /Six unreadable characters are restored\./, LIQUID],
   ['a Liquid address of another version', put(LIQUID, [3, 'p']), /begins like a confidential Liquid address of another version than 0/, null],
   ['a Liquid address with a wrong beginning', `lg1${LIQUID.slice(3)}`, /does not know texts that begin with “lg1”/, null],
   ['a descriptor with a wrong character', 'wpkh(02f9308a019258c31049344f85f89d5229b531c845836f99b08601f113bce036f8)#8zl0zxma', /Character 71 should be 9, not 8[^]*As typed, its checksum is wrong\./, DESCRIPTOR],
-  ['a descriptor with two', put(DESCRIPTOR, [10, 'x'], [75, 'q']), /No correction was found\.[^]*As typed, its checksum is wrong\.[^]*No change of one character makes it right\./, null],
+  ['a descriptor with two', put(DESCRIPTOR, [10, 'x'], [75, 'q']), /^This descriptor is wrong; do not use it\.[^]*No correction was found\.[^]*As typed, its checksum is wrong\.[^]*No change of one character makes it right\./, null],
   ['a descriptor with a character missing', DESCRIPTOR.slice(0, 20) + DESCRIPTOR.slice(21), /One character is missing: [0-9a-f], as character 2[0-9]\./, DESCRIPTOR],
   ['a descriptor with a letter in the other case', put(DESCRIPTOR, [0, 'W']), /Character 1 should be w, not W\./, DESCRIPTOR],
   ['a descriptor without a checksum', DESCRIPTOR.slice(0, -9), /This looks like a descriptor[^]*It does not end in “#” and a checksum[^]*its checksum is “#8zl0zxma”/, null],
   ['a descriptor with many wrong characters', put(DESCRIPTOR, [10, 'x'], [20, 'x'], [30, 'x'], [40, 'x']), /No correction was found\.[^]*As typed, its checksum is wrong\./, null],
   ['CashAddr with a wrong character', 'bitcoincash:qpm2qsznhks23z7629mms6s4cwef74vcwvy22gdx6q', /begins like a Bitcoin Cash address \(“bitcoincash:”\)\.[^]*can neither test nor correct this/, null],
   ['a code that is not known', 'bitcoincsh:qpm2qsznhks23z7629mms6s4cwef74vcwvy22gdx6a', /begins with “bitcoincsh:”, which this page does not know/, null],
-  ['a text of an unknown part', 'abcd1qqqqqqqqqqqqqqqqqqqqqq', /As typed, the checksum is wrong for both Bech32m and Bech32\.[^]*This page does not know texts that begin with “abcd1”, so it offers no correction\. Such a text may also have another checksum, or none\./, null],
+  ['a text of an unknown part', 'abcd1qqqqqqqqqqqqqqqqqqqqqq', /^This page does not know texts that begin with “abcd1”, so it cannot judge this one\.[^]*It may have another checksum, or none, or it may be mistyped\./, null],
+
+  ...[['words with a question mark', 'Hello, is this thing on?'], ['a word', 'abc'], ['data without a separator', 'qpzry'], ['a text with brackets', 'print(x)#12345678']].map(([name, typed]) =>
+    [name, typed, /^This does not look like a Bech32 text, so this page cannot judge it\.\s*$/, null]),
+
+  // Core Lightning's secrets.
+  ['a secret of Core Lightning', put(LIGHTNING, [10, 'q'], [30, '?'], [72, '?']), /Character 11 should be l, not q\. The unreadable characters are restored: 31 is g and 73 is n\.[^]*whoever sees this string has the secret[^]*With these changes it is a valid codex32 string\.[^]*Its beginning “cl” is that of Core Lightning/, LIGHTNING],
+  ['a secret of Core Lightning in upper case', put(LIGHTNING, [64, 'q'], [73, 'q']).toUpperCase(), /Character 65 should be J, not Q; character 74 should be S, not Q\./, LIGHTNING.toUpperCase()],
+  ['the front of one', LIGHTNING.slice(0, 72), /^This begins like a Core Lightning secret: 72 characters so far, of 74\.[^]*whoever sees this string has the secret[^]*If this is all of it, two characters are missing\./, null],
+  ['one that is too long', `${LIGHTNING}q`, /^This string is wrong; do not use it\.[^]*whoever sees this string has the secret[^]*It has 75 characters, and a Core Lightning secret has 74\.[^]*One character may be too many\./, null],
+  ['one that nothing mends', put(LIGHTNING, ...[10, 20, 30, 40, 50].map((at) => [at, 'q'])), /^This string is wrong; do not use it\.[^]*No correction was found\.[^]*As typed, the codex32 checksum is wrong\./, null],
 
   // Known kinds with one wrong character.
   ['a silent payment address', put(SILENT, [60, 'q']), /Character 61 should be [a-z0-9], not q\.[^]*With this change the Bech32m checksum is right\.[^]*It is a silent payment address\.[^]*As typed, the Bech32m checksum is wrong\./, SILENT],

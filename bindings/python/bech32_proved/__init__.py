@@ -7,7 +7,7 @@ every input.
     'abc14w46h2ata5yucn'
     >>> decode("abc14w46h2ata5yucn").data.hex()
     'ababababab'
-    >>> segwit.decode("BC1QW508D6QEJXTDG4Y5R3ZARVARY0C5XW7KV8F3T4").version
+    >>> segwit.decode("BC1QW508D6QEJXTDG4Y5R3ZARVARY0C5XW7KV8F3T4", "bc").version
     0
     >>> correct(Checksum.BECH32, "a12uel5q").text
     'a12uel5l'
@@ -31,6 +31,7 @@ from .texts import (
     Elements,
     Parts,
     check,
+    convertbits,
     correct,
     decode,
     decode_elements,
@@ -58,6 +59,7 @@ __all__ = [
     "Refused",
     "check",
     "codex32",
+    "convertbits",
     "correct",
     "decode",
     "decode_elements",

@@ -29,7 +29,7 @@ import ctypes
 import weakref
 from concurrent.futures import FIRST_COMPLETED, ThreadPoolExecutor, wait
 from operator import index
-from typing import Any, Callable, List, NamedTuple, Optional, Tuple, Union
+from typing import Any, Callable, List, Mapping, NamedTuple, Optional, Tuple, Union
 
 import numpy as np
 
@@ -271,6 +271,9 @@ def _pieces(column: Any) -> List[_Piece]:
         return [_fixed(column)]
     if isinstance(column, (str, bytes, bytearray)):
         raise TypeError("a column is wanted, and not one text")
+    # Iterated, these give their names or keys: a table of pandas, an array of rows and columns, a dict.
+    if getattr(column, "ndim", 1) != 1 or isinstance(column, Mapping):
+        raise TypeError(f"one column is wanted, such as table['address'], and not a {type(column).__name__}")
     return [_listed(column.tolist() if hasattr(column, "tolist") else list(column))]
 
 

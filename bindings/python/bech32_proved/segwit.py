@@ -11,6 +11,9 @@ from .texts import Change
 # A version is above 31.
 _NO_ELEMENT = _declared.BECH32_BAD_NUMBER
 
+# The address is one of another network.
+_OTHER_HRP = _declared.BECH32_OTHER_HRP
+
 
 class Address(NamedTuple):
     """The parts of a segwit address."""
@@ -43,20 +46,32 @@ def encode(hrp: str, version: int, program: Octets) -> str:
     return text.text()
 
 
-def decode(text: str) -> Address:
-    """Decodes an address. It accepts any human-readable part: compare it with that of your network.
+def decode(text: str, hrp: Optional[str] = None) -> Address:
+    """Decodes an address of the network whose human-readable part is `hrp`, in either case. If that is None, it accepts any
+    human-readable part: compare it with that of your network.
 
-    Raises the first that applies of the refusals that `bech32_proved.errors` lists for this function.
+        >>> decode("BC1QW508D6QEJXTDG4Y5R3ZARVARY0C5XW7KV8F3T4", "bc").version
+        0
+        >>> decode("BC1QW508D6QEJXTDG4Y5R3ZARVARY0C5XW7KV8F3T4", hrp="tb")
+        Traceback (most recent call last):
+        ...
+        bech32_proved.errors.OtherHrp: the address has another human-readable part than is wanted
+
+    Raises, of `hrp`, `HrpEmpty`, `HrpTooLong`, `HrpNotAscii`, `HrpInvalid` or `HrpMixedCase`; then the first that applies of
+    the refusals that `bech32_proved.errors` lists for this function; and last `OtherHrp`.
     """
-    data = utf8(text)
-    hrp, program = Buffer(_library.MAX_HRP), Buffer(_library.MAX_PROGRAM)
+    data, wanted = utf8(text), None if hrp is None else part_of(hrp).lower()
+    part, program = Buffer(_library.MAX_HRP), Buffer(_library.MAX_PROGRAM)
     version = ctypes.c_uint32()
     number = _library.segwit_decode(
-        *given(data), *hrp.out, ctypes.byref(version), *program.out
+        *given(data), *part.out, ctypes.byref(version), *program.out
     )
     if number != 0:
         refuse(number, text, data)
-    return Address(hrp.text(), version.value, program.bytes())
+    address = Address(part.text(), version.value, program.bytes())
+    if wanted is not None and address.hrp.lower().encode("ascii") != wanted:
+        refuse(_OTHER_HRP, text)
+    return address
 
 
 class Suggestion(NamedTuple):

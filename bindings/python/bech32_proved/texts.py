@@ -3,7 +3,7 @@
 import ctypes
 from enum import Enum
 from functools import partial
-from typing import Any, FrozenSet, Iterable, List, NamedTuple, Optional, Tuple
+from typing import Any, FrozenSet, Iterable, List, NamedTuple, Optional, Tuple, Union
 
 from . import _declared, _library, _searches
 from ._library import Buffer, Octets, given, in_case_of, listed, octets, refuse, utf8, whole
@@ -255,6 +255,62 @@ def encode_elements(checksum: Checksum, hrp: str, elements: Octets) -> str:
     if number != 0:
         refuse(number, hrp)
     return text.text()
+
+
+# Bytes are regrouped in pieces that a text has room for: five bytes are eight elements.
+_BYTES, _ELEMENTS = 4400, 7040
+
+
+def convertbits(data: Union[Octets, Iterable[int]], frombits: int, tobits: int, pad: bool = True) -> Optional[List[int]]:
+    """Regroups bytes into elements of five bits, or elements into bytes: like the function of this name in the reference
+    implementation of BIP-173, for the widths 8 and 5 that it is called with.
+
+        >>> convertbits(bytes([255, 0]), 8, 5)
+        [31, 28, 0, 0]
+        >>> convertbits([31, 28, 0, 0], 5, 8, False)
+        [255, 0]
+
+    With `pad`, zeros follow the last bits if these do not fill a group. Without it the bits that are left over are
+    dropped; returns None if these fill a group of the width that was given, or are not all zero. Returns None too if a
+    number in `data` is negative or has more than `frombits` bits.
+
+    Raises `ValueError` for other widths.
+    """
+    if (frombits, tobits) not in ((8, 5), (5, 8)):
+        raise ValueError(f"bits are regrouped from 8 to 5 or from 5 to 8, not from {frombits} to {tobits}")
+    if isinstance(data, (bytes, bytearray, memoryview)):
+        numbers = list(bytes(data))
+    else:
+        numbers = [whole(it, "a number") for it in listed(data, "data must be bytes or a list of numbers, not")]
+    if any(it >> frombits for it in numbers):
+        return None
+    return _to_elements(numbers, pad) if frombits == 8 else _to_bytes(numbers, pad)
+
+
+def _to_elements(data: List[int], pad: bool) -> Optional[List[int]]:
+    made: List[int] = []
+    for at in range(0, len(data), _BYTES):
+        text = encode(Checksum.LONG_BECH32, "a", bytes(data[at : at + _BYTES]))
+        made += decode_elements(Checksum.LONG_BECH32, text).elements
+    if pad or 8 * len(data) % 5 == 0:
+        return made
+    return None if made[-1] else made[:-1]
+
+
+def _to_bytes(elements: List[int], pad: bool) -> Optional[List[int]]:
+    # Zero elements follow the others, until all of them fill whole bytes.
+    size, rest = len(elements), 5 * len(elements) % 8
+    if not pad and rest >= 5:
+        return None
+    whole_blocks = elements + [0] * (-size % 8)
+    made: List[int] = []
+    for at in range(0, len(whole_blocks), _ELEMENTS):
+        text = encode_elements(Checksum.LONG_BECH32, "a", bytes(whole_blocks[at : at + _ELEMENTS]))
+        made += decode_strict(Checksum.LONG_BECH32, text).data
+    full = 5 * size // 8
+    if pad:
+        return made[: full + (1 if rest else 0)]
+    return None if rest and made[full] else made[:full]
 
 
 def decode_with_checksum(text: str) -> DecodedWithChecksum:

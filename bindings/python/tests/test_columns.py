@@ -57,6 +57,15 @@ def some(count, seed=1):
     return rows
 
 
+class Table:
+    """A table as pandas has it: iterated, it gives the names of its columns."""
+
+    ndim = 2
+
+    def __iter__(self):
+        return iter(["address"])
+
+
 class Foreign:
     """An array as another library has it: with an offset, bits of which nothing is known, and a release that is counted."""
 
@@ -169,6 +178,9 @@ class Columns(unittest.TestCase):
         self.same(columns.decode(pd.Series(self.rows), "bc"))
         self.same(columns.decode(pd.Series(self.rows, dtype="string"), "bc"))
         self.same(columns.decode(pd.Series(self.rows).where(pd.notna, np.nan), "bc"))
+        for table in (pd.DataFrame({"address": self.rows}), pd.DataFrame({"address": self.rows, "more": self.rows})):
+            self.assertRaises(TypeError, columns.decode, table)
+            self.same(columns.decode(table["address"], "bc"))
 
     def test_arrow(self):
         Foreign.released = 0
@@ -246,6 +258,10 @@ class Columns(unittest.TestCase):
         for wrong in ("text", b"bytes", [1], [["a"]], np.array([1.5]), 3):
             with self.assertRaises(TypeError):
                 columns.check(wrong)
+        # Each of these gives its names, its keys or its rows when it is iterated.
+        for table in (Table(), {"address": [ADDRESS]}, np.array([["a", "b"]]), np.array("a"), np.array([[b"a"]])):
+            for call in (columns.decode, columns.check, lambda it: columns.encode("bc", [0], it)):
+                self.assertRaisesRegex(TypeError, "^one column is wanted", call, table)
         for call in (
             lambda: columns.encode("bc", [0], [b"", b""]),
             lambda: columns.decode([], hrp=""),

@@ -20,7 +20,7 @@ from unittest import mock
 
 import bech32_proved
 from bech32_proved import Checksum, Edit, EditKind, check, codex32, correct, decode, decode_with_checksum
-from bech32_proved import decode_elements, decode_strict, encode_elements
+from bech32_proved import convertbits, decode_elements, decode_strict, encode_elements
 from bech32_proved import _searches, edits, encode, errors, near_edits, nearest, segwit, texts
 from bech32_proved._library import Lent, interruptible
 
@@ -137,6 +137,20 @@ LONG = (
 ODD = "ms14lvh96q5zxeuujvzg58w59yc7s38yyfhkh8q0nuzggke5jv9s"
 
 
+def reference_bits(data, frombits, tobits, pad=True):
+    """What BIP-173's text says of regrouping, a bit at a time: groups from the highest bit on, and what may be left over."""
+    if any(it < 0 or it >= 2**frombits for it in data):
+        return None
+    bits = [it >> at & 1 for it in data for at in reversed(range(frombits))]
+    over = len(bits) % tobits
+    if pad:
+        bits += [0] * (-len(bits) % tobits)
+    elif over >= frombits or any(bits[len(bits) - over :]):
+        return None
+    whole = [bits[at : at + tobits] for at in range(0, len(bits) - tobits + 1, tobits)]
+    return [int("".join(map(str, it)), 2) for it in whole]
+
+
 class Texts(unittest.TestCase):
     def test_accepts(self):
         rows = [(text, Checksum.BECH32, Checksum.BECH32M) for text in BECH32]
@@ -233,6 +247,26 @@ class Texts(unittest.TestCase):
         hrp, (version, *rest) = decode_elements(Checksum.BECH32M, payments)
         self.assertEqual((hrp, version, len(rest)), ("sp", 0, 106))
         self.assertEqual(encode_elements(Checksum.BECH32M, hrp, bytes([version, *rest])), payments)
+
+    def test_regroups_bits_as_the_reference_does(self):
+        for widths in ((8, 5), (5, 8)):
+            for size in [*range(26), 4399, 4400, 4401, 7039, 7040, 7041, 7048]:
+                for last in (0, 1, 4, 16, 31, 255):
+                    data = [(7 * at + size) % 2 ** widths[0] for at in range(size)]
+                    data[-1:] = [last][: len(data)]
+                    for pad in (True, False):
+                        said = (size, last, widths, pad)
+                        # No comparison of unittest's own, which takes minutes to say how long lists differ.
+                        self.assertTrue(convertbits(data, *widths, pad) == reference_bits(data, *widths, pad), said)
+        self.assertEqual(convertbits(bytearray(PROGRAM), 8, 5), convertbits(list(PROGRAM), 8, 5))
+        self.assertEqual(convertbits(b"", 5, 8, False), [])
+        for data, widths in ([256], (8, 5)), ([-1], (8, 5)), ([32], (5, 8)), (b"\x20", (5, 8)), ([0, 0, 2**70], (5, 8)):
+            self.assertIsNone(convertbits(data, *widths))
+            self.assertIsNone(reference_bits(data, *widths))
+        for widths in (8, 8), (5, 5), (8, 4), (1, 8), (5, 16):
+            self.assertRaisesRegex(ValueError, "not from", convertbits, [0], *widths)
+        for data in "qpzry", None, 5, [None], ["0"], [0.5]:
+            self.assertRaises(TypeError, convertbits, data, 5, 8)
 
     def test_reads_and_writes_long_texts(self):
         for checksum, short in ((Checksum.LONG_BECH32, Checksum.BECH32), (Checksum.LONG_BECH32M, Checksum.BECH32M)):
@@ -631,6 +665,23 @@ class Addresses(unittest.TestCase):
             with self.assertRaises(errors.BadVersion) as raised:
                 segwit.encode("bc", version, PROGRAM)
             self.assertEqual(raised.exception.number, number)
+
+
+    def test_reads_those_of_one_network(self):
+        text = segwit.encode("bc", 0, PROGRAM)
+        for given, hrp in (text, "bc"), (text, "BC"), (text.upper(), "bc"), (text, None):
+            self.assertEqual(segwit.decode(given, hrp), segwit.decode(given))
+        for hrp in "tb", "bcrt", "b", "c", "TB":
+            with self.assertRaises(errors.OtherHrp) as caught:
+                segwit.decode(text, hrp=hrp)
+            refused = caught.exception
+            self.assertEqual((refused.text, refused.place, refused.number), (text, None, 49))
+        # A part that is none is told first, then a fault of the address, then another part.
+        for hrp, error in ("", errors.HrpEmpty), ("b c", errors.HrpInvalid), ("Bc", errors.HrpMixedCase), ("\u212a", errors.HrpNotAscii):
+            self.assertRaises(error, segwit.decode, "bc1", hrp)
+        self.assertRaises(errors.WrongChecksum, segwit.decode, text[:-1] + "q", "tb")
+        for hrp in b"bc", 5, ["bc"]:
+            self.assertRaisesRegex(TypeError, "hrp must be a str", segwit.decode, text, hrp)
 
 
 class Suggestions(unittest.TestCase):
