@@ -1,5 +1,5 @@
 //! The functions of codex32.h in Rust without unsafe code, made of the proved library's object for WebAssembly (sha256
-//! c77a714961a2b2da8781aeccaee2fe2ce64bc8fbea3e2fea2eac14f0c43471d4) by translator/translate; do not edit.
+//! 91c6bfcb0576720901364a23ed31d8dae5fbc91c9015413f6e9eaa47b6b7cf6c) by translator/translate; do not edit.
 #![allow(unused, clippy::all, clippy::pedantic, clippy::nursery, clippy::restriction)]
 
 // The machine on which the functions of a library for wasm64 run, without unsafe code. A call makes its memory, one slice: the
