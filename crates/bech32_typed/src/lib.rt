@@ -1,0 +1,11 @@
+//! What a typed text may stand for: slips and frames.
+//!
+//! Below it: `bech32_gf`.
+//! Standard: BIP-173.
+#![tactic(auto)]
+
+mod frames;
+mod slips;
+
+pub use self::frames::{Frames, add_frames};
+pub use self::slips::{Frame, Slip};
