@@ -5,7 +5,9 @@
 #![tactic(auto)]
 
 mod frames;
+mod readings;
 mod slips;
 
 pub use self::frames::{Frames, add_frames};
+pub use self::readings::{count_twos, plain, reading};
 pub use self::slips::{Frame, Slip};
