@@ -1,5 +1,5 @@
 -- Frames are added one after another.
-use Rattle.std.proofs.Common.{◌≡◌, ◌∙◌, ◌+◌, ◌||◌, ℕ, Bool, true, false, cond, List, [], ◌∷◌, ◌++◌, map, append-nil, map-id, refl, sym, ap, arith}
+use Rattle.std.proofs.Common.{◌≡◌, ◌∙◌, ◌+◌, ◌||◌, ℕ, Bool, true, false, cond, List, [], ◌∷◌, ◌++◌, map, append-nil, refl, sym, ap, arith}
 use Rattle.std.specs.List.{filter, fold, flat_map, list_any, range_with_len}
 use Rattle.std.specs.Cmp.Lexicographic.{pointwise}
 use Rattle.std.specs.Prelude.{nat_eq}
@@ -10,6 +10,7 @@ use Rattle.std.proofs.lemmas.List.FromFn.{map-range_with_len_more}
 use Rattle.std.proofs.lemmas.List.Sums.{fold-append}
 use Rattle.arrayvec.specs.ArrayVec.{ArrayVec}
 use Rattle.indexmap.specs.IndexSet.{insert_key}
+use Rattle.bech32_typed.proofs.Counted.{filter-more}
 use Rattle.bech32_typed.specs.Frames.{deeper, is_frame, slipped, with_frames, with_text}
 
 -- what is added in two parts
@@ -59,23 +60,16 @@ pub deeper-none : (d : Bool) → deeper d [] ≡ []
 deeper-none false = refl
 deeper-none true = refl
 
-range_more : (a n : ℕ) → range_with_len a (n + 1) ≡ range_with_len a n ++ (a + n) ∷ []
-range_more a n = sym (map-id (range_with_len a (n + 1))) ∙ map-range_with_len_more (λ i. i) a n (a + n) refl ∙ ap (λ l. l ++ (a + n) ∷ []) (map-id (range_with_len a n))
-
 module _ (d : Bool) (before : List (List ℕ)) (f : ℕ → List ℕ) (p : ℕ → Bool) (i : ℕ) where
-  -- those that pass a test, of the numbers from 0
-  passing : (b : Bool) → p i ≡ b → filter p (range_with_len 0 (i + 1)) ≡ filter p (range_with_len 0 i) ++ cond b (i ∷ []) []
-  passing b h = ap (filter p) (range_more 0 i ∙ ap (λ k. range_with_len 0 i ++ k ∷ []) (omega arith)) ∙ filter-append p (range_with_len 0 i) (i ∷ []) ∙ ap (λ c. filter p (range_with_len 0 i) ++ cond c (i ∷ []) []) h
-
   -- one more of these is added, or none
   pub one_passes : p i ≡ true → with_frames before (deeper d (map f (filter p (range_with_len 0 (i + 1)))))
       ≡ with_frames (with_frames before (deeper d (map f (filter p (range_with_len 0 i))))) (deeper d (f i ∷ []))
   one_passes h =
-      ap (λ k. with_frames before (deeper d (map f k))) (passing true h)
+      ap (λ k. with_frames before (deeper d (map f k))) (filter-more p i true h)
       ∙ ap (λ k. with_frames before (deeper d k)) (map-append f (filter p (range_with_len 0 i)) (i ∷ []))
       ∙ ap (with_frames before) (deeper-append d (map f (filter p (range_with_len 0 i))) (f i ∷ []))
       ∙ with_frames-append before (deeper d (map f (filter p (range_with_len 0 i)))) (deeper d (f i ∷ []))
 
   pub none_passes : p i ≡ false → with_frames before (deeper d (map f (filter p (range_with_len 0 (i + 1)))))
       ≡ with_frames before (deeper d (map f (filter p (range_with_len 0 i))))
-  none_passes h = ap (λ k. with_frames before (deeper d (map f k))) (passing false h ∙ append-nil (filter p (range_with_len 0 i)))
+  none_passes h = ap (λ k. with_frames before (deeper d (map f k))) (filter-more p i false h ∙ append-nil (filter p (range_with_len 0 i)))

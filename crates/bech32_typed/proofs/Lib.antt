@@ -1,2 +1,4 @@
 pub mod Adding
-pub mod Looks
+pub mod Any
+pub mod Counted
+pub mod Standing

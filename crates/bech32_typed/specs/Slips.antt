@@ -1,9 +1,9 @@
--- What one slip makes of a typed text: two neighbours swapped, a character too many, one missing.
+-- What one slip makes of a typed text: one wrong, two swapped, one too many, one missing.
 use Rattle.std.specs.Prelude.{◌+◌, ◌-◌, ◌==◌, ℕ, suc, if◌then◌else◌}
 use Rattle.std.specs.Prelude.{List, [], ◌∷◌, ◌++◌, length, map, take, drop, get_or}
 use Rattle.std.specs.List.{range_with_len}
 use Rattle.bech32_typed.specs.declared.slips.Slip.{Slip}
-use Rattle.bech32_typed.specs.declared.slips.Slip.TheVariants.{Missing, Swapped, TooMany}
+use Rattle.bech32_typed.specs.declared.slips.Slip.TheVariants.{Missing, Swapped, TooMany, Wrong}
 
 -- `?`, which stands for a character that cannot be read
 abbrev pub unread : ℕ
@@ -22,14 +22,20 @@ without_at text i = take i text ++ drop (i + 1) text
 abbrev pub with_unread_at : List ℕ → ℕ → List ℕ
 with_unread_at text i = take i text ++ unread ∷ drop i text
 
+-- the character at this place cannot be read
+abbrev pub unread_at : List ℕ → ℕ → List ℕ
+unread_at text i = take i text ++ unread ∷ drop (i + 1) text
+
 -- what a slip of this kind makes of a text, at this place from the front
 abbrev pub after_slip : Slip → List ℕ → ℕ → List ℕ
+after_slip Wrong text i = unread_at text i
 after_slip Swapped text i = swapped_at text i
 after_slip TooMany text i = without_at text i
 after_slip Missing text i = with_unread_at text i
 
 -- at how many places a slip of this kind can be, in a text of n characters
 abbrev pub places : Slip → ℕ → ℕ
+places Wrong n = n
 places Swapped n = n - 1
 places TooMany n = n
 places Missing n = n + 1
@@ -38,7 +44,7 @@ places Missing n = n + 1
 abbrev pub after_slips : Slip → List ℕ → List (List ℕ)
 after_slips slip text = map (after_slip slip text) (range_with_len 0 (places slip (length text)))
 
--- what any slip makes of a text: swaps first, then one left out, then one put in
+-- what a slip of order makes of a text: swaps first, then one left out, then one put in
 abbrev pub after_one_slip : List ℕ → List (List ℕ)
 after_one_slip text =
     after_slips Swapped text ++ (after_slips TooMany text ++ after_slips Missing text)

@@ -5,9 +5,11 @@
 #![tactic(auto)]
 
 mod frames;
+mod fronts;
 mod readings;
 mod slips;
 
 pub use self::frames::{Frames, add_frames};
+pub use self::fronts::{Front, fronts_of};
 pub use self::readings::{count_twos, plain, reading};
 pub use self::slips::{Frame, Slip};

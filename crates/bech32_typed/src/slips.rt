@@ -15,6 +15,8 @@ pub type Frame = ArrayVec<u8, 62>;
 /// What someone did who typed a text.
 #[derive(Clone, Copy, Debug, PartialEq, Eq, Drop)]
 pub enum Slip {
+    /// A character is wrong.
+    Wrong,
     /// Two neighbours changed places.
     Swapped,
     /// A character was typed that is too many.
@@ -42,7 +44,7 @@ pub(crate) fn places_of(slip: Slip, size: usize) -> usize
 {
     match slip {
         Slip::Swapped => size.saturating_sub(1),
-        Slip::TooMany => size,
+        Slip::Wrong | Slip::TooMany => size,
         Slip::Missing => size + 1,
     }
 }
@@ -54,6 +56,7 @@ pub(crate) fn undone(slip: Slip, text: &[u8], i: usize) -> Frame
     ensures { result.items ≡ after_slip slip text.now i }
 {
     match slip {
+        Slip::Wrong => joined(&text[..i], b"?", &text[i + 1..]),
         Slip::Swapped => joined(&text[..i], &[text[i + 1], text[i]], &text[i + 2..]),
         Slip::TooMany => joined(&text[..i], &[], &text[i + 1..]),
         Slip::Missing => joined(&text[..i], b"?", &text[i..]),
