@@ -1,4 +1,5 @@
 pub mod Adding
 pub mod Any
+pub mod Beginning
 pub mod Counted
 pub mod Standing

@@ -1,3 +1,4 @@
+pub mod Cleaned
 pub mod Frames
 pub mod Fronts
 pub mod Readings

@@ -4,11 +4,14 @@
 //! Standard: BIP-173.
 #![tactic(auto)]
 
+mod cleaning;
 mod frames;
 mod fronts;
+mod look_alikes;
 mod readings;
 mod slips;
 
+pub use self::cleaning::clean;
 pub use self::frames::{Frames, add_frames};
 pub use self::fronts::{Front, fronts_of};
 pub use self::readings::{count_twos, plain, reading};
