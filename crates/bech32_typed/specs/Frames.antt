@@ -98,11 +98,16 @@ with_text texts text =
 abbrev pub with_frames : List (List ℕ) → List (List ℕ) → List (List ℕ)
 with_frames before texts = fold with_text before (filter is_frame texts)
 
--- the frames that at most so many slips make of a typed data part, fewer slips first, each once
-abbrev pub frames_within : ℕ → List ℕ → List (List ℕ)
-frames_within zero text = with_frames [] (made_by zero text)
-frames_within (suc slips) text =
-    with_frames (frames_within slips text) (made_by (suc slips) text)
+-- the frames that fewer slips make of a typed data part, in their order, each once
+abbrev pub frames_before : ℕ → List ℕ → List (List ℕ)
+frames_before zero text = []
+frames_before (suc slips) text =
+    with_frames (frames_before slips text) (made_by slips text)
+
+-- those that so many slips make, and no fewer
+abbrev pub frames_by : ℕ → List ℕ → List (List ℕ)
+frames_by slips text =
+    drop (length (frames_before slips text)) (frames_before (suc slips) text)
 
 -- the texts, or what one more slip makes of each
 abbrev pub deeper : Bool → List (List ℕ) → List (List ℕ)

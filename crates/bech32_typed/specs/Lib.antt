@@ -3,3 +3,4 @@ pub mod Frames
 pub mod Fronts
 pub mod Readings
 pub mod Slips
+pub mod Tries

@@ -2,7 +2,7 @@
 -- and `o`, since they look like others. Who types one of them meant another.
 use Rattle.std.specs.Prelude.{◌/◌, ◌%◌, ◌^◌, ◌==◌, ◌||◌, ℕ, if◌then◌else◌}
 use Rattle.std.specs.Prelude.{Bool, List, [], ◌∷◌, length, map}
-use Rattle.std.specs.List.{filter, range_with_len}
+use Rattle.std.specs.List.{filter, list_any, range_with_len}
 use Rattle.bech32_gf.specs.Alphabet.{is_of_alphabet}
 use Rattle.bech32_typed.specs.Slips.{unread}
 
@@ -47,3 +47,10 @@ plain_look c = if is_of_alphabet c then c else unread
 -- the text, where nothing is guessed of characters that are not of the alphabet
 abbrev pub plain_reading : List ℕ → List ℕ
 plain_reading text = map plain_look text
+
+-- a character that is not of the alphabet looks like one that is
+abbrev pub has_look : ℕ → Bool
+has_look c = looks_like_two c || ((c == 49) || (c == 111))
+
+abbrev pub has_looks : List ℕ → Bool
+has_looks text = list_any has_look text

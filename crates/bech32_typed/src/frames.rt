@@ -29,8 +29,8 @@ fn has_size(size: usize) -> bool
     size == SHORT || size == LONG
 }
 
-// How many characters cannot be read.
-fn count_unread(text: &[u8]) -> usize
+/// How many characters cannot be read.
+pub fn count_unread(text: &[u8]) -> usize
     ensures { result ≡ unread_in text.now }
 {
     let mut count = 0;

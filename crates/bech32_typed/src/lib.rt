@@ -10,9 +10,10 @@ mod fronts;
 mod look_alikes;
 mod readings;
 mod slips;
+mod tries;
 
 pub use self::cleaning::clean;
 pub use self::frames::{Frames, add_frames};
 pub use self::fronts::{Front, fronts_of};
-pub use self::readings::{count_twos, plain, reading};
+pub use self::readings::{count_twos, has_looks, plain, reading};
 pub use self::slips::{Frame, Slip};

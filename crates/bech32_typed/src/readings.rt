@@ -2,7 +2,7 @@
 
 ghost use Rattle.std.specs.Prelude.{◌≡◌, ◌<◌, ◌+◌, ◌/◌, ◌%◌, ◌^◌, ◌==◌, IfOk, false, true};
 ghost use Rattle.bech32_gf.specs.Alphabet.{is_of_alphabet};
-ghost use Rattle.bech32_typed.specs.Readings.{look, look_of, looks_like_two, plain_look, plain_reading, reading_at, twos};
+ghost use Rattle.bech32_typed.specs.Readings.{has_look, has_looks, look, look_of, looks_like_two, plain_look, plain_reading, reading_at, twos};
 
 use bech32_gf::alphabet::is_data_byte;
 use std::alloc::{AllocError, Allocator};
@@ -67,6 +67,25 @@ fn twos_after(c: u8, left: usize) -> usize
     ensures other { looks_like_two c ≡ false → result ≡ left }
 {
     if is_two(c) { left - 1 } else { left }
+}
+
+// Whether a character that is not of the alphabet looks like one that is.
+fn looks(c: u8) -> bool
+    ensures { result ≡ has_look c }
+{
+    is_two(c) || c == b'1' || c == b'o'
+}
+
+/// Whether a character of a typed data part is not of the alphabet, and looks like one that is.
+pub fn has_looks(text: &[u8]) -> bool
+    ensures { result ≡ has_looks text.now }
+{
+    for c in text {
+        if looks(*c) {
+            return true;
+        }
+    }
+    false
 }
 
 // Which look a bit of a number chooses.
