@@ -1,7 +1,7 @@
 //! The frames of a typed data part.
 
-ghost use Rattle.std.specs.Prelude.{◌≡◌, ◌<◌, ◌≤◌, ◌+◌, ◌-◌, ◌++◌, ◌∷◌, [], OnOk, length, map, true};
-ghost use Rattle.bech32_typed.specs.Frames.{blocks_once, cut_to, deeper, is_doubled, is_frame, is_size, four_missing, long_size, longest_with_slips, made_by, shortened, slipped, three_missing, unread_in, with_frames, with_three_unread_at, without_block};
+ghost use Rattle.std.specs.Prelude.{◌≡◌, ◌<◌, ◌≤◌, ◌+◌, ◌-◌, ◌++◌, ◌∷◌, [], IfOk, OnOk, drop, length, map, true};
+ghost use Rattle.bech32_typed.specs.Frames.{blocks_once, cut_to, deeper, frames_before, frames_by, is_doubled, is_frame, is_size, four_missing, long_size, longest_with_slips, made_by, shortened, slipped, three_missing, unread_in, with_frames, with_three_unread_at, without_block};
 ghost use Rattle.bech32_typed.specs.Slips.{after_slips};
 
 use crate::slips::{Frame, Slip, joined, places_of, undone};
@@ -304,4 +304,36 @@ fn add_itself<A: Allocator + Copy>(
         return Ok(());
     }
     add_frame(joined(text, &[], &[]), frames)
+}
+
+/// Adds the frames that this many slips make of a typed data part, and no fewer, to those that
+/// fewer make. Returns how many were there before.
+///
+/// # Errors
+///
+/// If memory runs out.
+pub fn add_next<A: Allocator + Copy>(
+    text: &[u8],
+    slips: usize,
+    frames: &mut Frames<A>,
+) -> Result<usize, AllocError>
+    requires { map (λ f. f.items) frames.old.keys ≡ frames_before slips text.now }
+    ensures all { OnOk result (map (λ f. f.items) frames.new.keys
+        ≡ frames_before (slips + 1) text.now) }
+    ensures new { IfOk result (λ before.
+        map (λ f. f.items) (drop before frames.new.keys) ≡ frames_by slips text.now) }
+{
+    let before = frames.len();
+    add_frames(text, slips, frames)?;
+    Ok(before)
+}
+
+/// The frames from a place on.
+pub fn since(frames: &[Frame], before: usize) -> &[Frame]
+    ensures { result.now ≡ drop before frames.now }
+{
+    if before > frames.len() {
+        return &[];
+    }
+    &frames[before..]
 }

@@ -13,7 +13,8 @@ mod slips;
 mod tries;
 
 pub use self::cleaning::clean;
-pub use self::frames::{Frames, add_frames};
+pub use self::frames::{Frames, add_frames, add_next, since};
 pub use self::fronts::{Front, fronts_of};
 pub use self::readings::{count_twos, has_looks, plain, reading};
 pub use self::slips::{Frame, Slip};
+pub use self::tries::{Budget, Pass, levels_tried};

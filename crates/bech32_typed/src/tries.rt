@@ -3,9 +3,10 @@
 ghost use Rattle.std.specs.Prelude.{◌≡◌, ◌<◌, ◌≤◌, ◌+◌, ◌⊎◌, ◌^◌, IfOk, MatchOption, drop, length, map, true};
 ghost use Rattle.std.specs.List.{flat_map, list_all, sum_by};
 ghost use Rattle.bech32_typed.specs.Frames.{frames_by, is_frame};
+ghost use Rattle.bech32_typed.specs.declared.tries.Pass.TheVariants.{AsItLooks, Unread};
 ghost use Rattle.bech32_typed.specs.Tries.{IsTaken, choices, covered, left_after, level, levels, levels_of, readings_of, texts_of, tries_of_front, tries_of_reading, with_errors};
 
-use crate::frames::{Frames, add_frames, count_unread};
+use crate::frames::{Frames, add_next, count_unread, since};
 use crate::fronts::Front;
 use crate::readings::{count_twos, has_looks, plain, reading};
 use crate::slips::Frame;
@@ -13,7 +14,7 @@ use std::alloc::{AllocError, Allocator};
 
 /// How a typed text is read.
 #[derive(Clone, Copy, Debug, PartialEq, Eq, Drop)]
-pub(crate) enum Pass {
+pub enum Pass {
     /// Characters that are not of the alphabet as those that they look like.
     AsItLooks,
     /// These characters as unread, where there are any.
@@ -23,6 +24,9 @@ pub(crate) enum Pass {
 /// The most texts that are tried: of 100 texts that are no mistyped addresses, one answer is
 /// expected at most.
 pub(crate) const MAX_TEXTS: u64 = 10_737_418;
+
+/// The most tries that are made.
+pub(crate) const MAX_TRIES: u64 = 65_536;
 
 /// The most characters that look like two: 1,024 readings.
 pub(crate) const MAX_TWOS: usize = 10;
@@ -108,4 +112,176 @@ fn take_frames(frames: &[Frame], errors: usize, mut left: Budget) -> Option<Budg
         left = take_one(left, texts(frame.as_slice(), errors))?;
     }
     Some(left)
+}
+
+// Takes what is tried for a reading of a data part, where so many slips are left.
+fn take_reading<A: Allocator + Copy>(
+    alloc: A,
+    part: &[u8],
+    slips: usize,
+    mut left: Budget,
+) -> Result<Option<Budget>, AllocError>
+    requires { slips ≤ 2 }
+    ensures { IfOk result (IsTaken left (tries_of_reading slips part.now)) }
+{
+    let mut frames = Frames::new(alloc);
+    for made in 0..slips + 1 {
+        let before = add_next(part, made, &mut frames)?;
+        let new = since(frames.as_slice(), before);
+        let Some(rest) = take_frames(new, slips - made, left) else {
+            return Ok(None);
+        };
+        left = rest;
+    }
+    Ok(Some(left))
+}
+
+// In how many ways a part is read in which so many characters look like two.
+fn ways_to_read(twos: usize) -> usize
+    requires { twos ≤ 10 }
+    ensures { result ≡ 2 ^ twos }
+{
+    1 << twos
+}
+
+// Takes what is tried for a data part as it looks.
+fn take_looks<A: Allocator + Copy>(
+    alloc: A,
+    part: &[u8],
+    slips: usize,
+    mut left: Budget,
+) -> Result<Option<Budget>, AllocError>
+    requires { slips ≤ 2 }
+    ensures { IfOk result (IsTaken left
+        (flat_map (tries_of_reading slips) (readings_of AsItLooks part.now))) }
+{
+    let twos = count_twos(part);
+    if twos > MAX_TWOS {
+        return Ok(Some(left));
+    }
+    for i in 0..ways_to_read(twos) {
+        let read = reading(alloc, part, i)?;
+        let Some(rest) = take_reading(alloc, read.as_slice(), slips, left)? else {
+            return Ok(None);
+        };
+        left = rest;
+    }
+    Ok(Some(left))
+}
+
+// Takes what is tried for a data part with characters unread.
+fn take_unread<A: Allocator + Copy>(
+    alloc: A,
+    part: &[u8],
+    slips: usize,
+    left: Budget,
+) -> Result<Option<Budget>, AllocError>
+    requires { slips ≤ 2 }
+    ensures { IfOk result (IsTaken left
+        (flat_map (tries_of_reading slips) (readings_of Unread part.now))) }
+{
+    if !has_looks(part) {
+        return Ok(Some(left));
+    }
+    let read = plain(alloc, part)?;
+    take_reading(alloc, read.as_slice(), slips, left)
+}
+
+// What comes after a front.
+pub(crate) fn after(text: &[u8], size: usize) -> &[u8]
+    ensures { result.now ≡ drop size text.now }
+{
+    if size > text.len() {
+        return &[];
+    }
+    &text[size..]
+}
+
+// Takes what is tried for a front, with so many slips in all.
+fn take_front<A: Allocator + Copy>(
+    alloc: A,
+    pass: Pass,
+    text: &[u8],
+    slips: usize,
+    front: &Front,
+    left: Budget,
+) -> Result<Option<Budget>, AllocError>
+    requires { slips ≤ 2 }
+    ensures { IfOk result (IsTaken left (tries_of_front pass text.now slips front.now)) }
+{
+    if front.slips > slips {
+        return Ok(Some(left));
+    }
+    let part = after(text, front.size);
+    match pass {
+        Pass::AsItLooks => take_looks(alloc, part, slips - front.slips, left),
+        Pass::Unread => take_unread(alloc, part, slips - front.slips, left),
+    }
+}
+
+// Takes what is tried with so many slips.
+fn take_level<A: Allocator + Copy>(
+    alloc: A,
+    pass: Pass,
+    text: &[u8],
+    fronts: &[Front],
+    slips: usize,
+    mut left: Budget,
+) -> Result<Option<Budget>, AllocError>
+    requires { slips ≤ 2 }
+    ensures { IfOk result (IsTaken left (level pass text.now fronts.now slips)) }
+{
+    for front in fronts {
+        let Some(rest) = take_front(alloc, pass, text, slips, front, left)? else {
+            return Ok(None);
+        };
+        left = rest;
+    }
+    Ok(Some(left))
+}
+
+// For how many levels a budget is enough, and what is left of it.
+fn cover<A: Allocator + Copy>(
+    alloc: A,
+    pass: Pass,
+    text: &[u8],
+    fronts: &[Front],
+    left: Budget,
+) -> Result<(usize, Budget), AllocError>
+    ensures { IfOk result (λ found. (found.0 ≡ covered left (levels pass text.now fronts.now))
+        × (found.1 ≡ left_after left (levels pass text.now fronts.now))) }
+{
+    let Some(one) = take_level(alloc, pass, text, fronts, 0, left)? else {
+        return Ok((0, left));
+    };
+    let Some(two) = take_level(alloc, pass, text, fronts, 1, one)? else {
+        return Ok((1, one));
+    };
+    match take_level(alloc, pass, text, fronts, 2, two)? {
+        Some(rest) => Ok((3, rest)),
+        None => Ok((2, two)),
+    }
+}
+
+/// With how many slips a typed text is tried: for no slip 1, for one 2, for two 3, and 0 where
+/// nothing is tried; as it looks, and with characters unread.
+///
+/// # Errors
+///
+/// If memory runs out.
+pub fn levels_tried<A: Allocator + Copy>(
+    alloc: A,
+    text: &[u8],
+    fronts: &[Front],
+) -> Result<(usize, usize), AllocError>
+    ensures { IfOk result (λ found. (found.0 ≡ levels_of AsItLooks text.now fronts.now)
+        × (found.1 ≡ levels_of Unread text.now fronts.now)) }
+{
+    let whole = Budget {
+        texts: MAX_TEXTS,
+        tries: MAX_TRIES,
+    };
+    let (looks, left) = cover(alloc, Pass::AsItLooks, text, fronts, whole)?;
+    let (unread, _) = cover(alloc, Pass::Unread, text, fronts, left)?;
+    Ok((looks, unread))
 }
