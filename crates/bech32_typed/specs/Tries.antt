@@ -4,7 +4,7 @@ use Rattle.std.specs.Prelude.{◌+◌, ◌-◌, ◌*◌, ◌/◌, ◌^◌, ◌&&
 use Rattle.std.specs.Prelude.{Bool, List, [], ◌∷◌, length, map, drop}
 use Rattle.std.specs.List.{flat_map, range_with_len, sum_by}
 use Rattle.bech32_typed.specs.Frames.{frames_by, unread_in}
-use Rattle.bech32_typed.specs.Readings.{has_looks, plain_reading, readings, twos}
+use Rattle.bech32_typed.specs.Readings.{has_looks, plain_reading, reading_at, readings, twos}
 use Rattle.bech32_typed.specs.declared.fronts.Front.{Front}
 use Rattle.bech32_typed.specs.declared.tries.Budget.{Budget}
 use Rattle.bech32_typed.specs.declared.tries.Pass.{Pass}
@@ -38,6 +38,10 @@ tries_by part slips made = map (with_errors (slips - made)) (frames_by made part
 
 abbrev pub tries_of_reading : ℕ → List ℕ → List Try
 tries_of_reading slips part = flat_map (tries_by part slips) (range_with_len 0 (slips + 1))
+
+-- the same for the reading of a data part that looks as it does by a number
+abbrev pub tries_of_numbered : ℕ → List ℕ → ℕ → List Try
+tries_of_numbered slips part i = tries_of_reading slips (reading_at part i)
 
 -- the readings of a data part: as it looks, in at most 1,024 ways; or, where a character looks like
 -- one of the alphabet, with that unread

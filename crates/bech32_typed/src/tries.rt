@@ -1,10 +1,12 @@
 //! How many texts are tried for a typed text, and so with how many slips.
 
-ghost use Rattle.std.specs.Prelude.{◌≡◌, ◌<◌, ◌≤◌, ◌+◌, ◌⊎◌, ◌^◌, IfOk, MatchOption, drop, length, map, true};
-ghost use Rattle.std.specs.List.{flat_map, list_all, sum_by};
+ghost use Rattle.std.specs.Prelude.{◌≡◌, ◌<◌, ◌≤◌, ◌+◌, ◌⊎◌, ◌^◌, IfOk, MatchOption, drop, get_or, length, map, true};
+ghost use Rattle.std.specs.List.{flat_map, list_all, range_with_len};
 ghost use Rattle.bech32_typed.specs.Frames.{frames_by, is_frame};
+ghost use Rattle.bech32_typed.specs.Fronts.{front_of};
+ghost use Rattle.bech32_typed.specs.Readings.{twos};
 ghost use Rattle.bech32_typed.specs.declared.tries.Pass.TheVariants.{AsItLooks, Unread};
-ghost use Rattle.bech32_typed.specs.Tries.{IsTaken, choices, covered, left_after, level, levels, levels_of, readings_of, texts_of, tries_of_front, tries_of_reading, with_errors};
+ghost use Rattle.bech32_typed.specs.Tries.{IsTaken, choices, covered, left_after, level, levels, levels_of, readings_of, texts_of, tries_of_front, tries_of_numbered, tries_of_reading, with_errors};
 
 use crate::frames::{Frames, add_next, count_unread, since};
 use crate::fronts::Front;
@@ -144,12 +146,35 @@ fn ways_to_read(twos: usize) -> usize
     1 << twos
 }
 
+// Takes what is tried for the first readings of a data part as it looks.
+fn take_readings<A: Allocator + Copy>(
+    alloc: A,
+    part: &[u8],
+    count: usize,
+    slips: usize,
+    mut left: Budget,
+) -> Result<Option<Budget>, AllocError>
+    requires few { twos part.now < 64 }
+    requires slips { slips ≤ 2 }
+    ensures { IfOk result (IsTaken left
+        (flat_map (tries_of_numbered slips part.now) (range_with_len 0 count))) }
+{
+    for i in 0..count {
+        let read = reading(alloc, part, i)?;
+        let Some(rest) = take_reading(alloc, read.as_slice(), slips, left)? else {
+            return Ok(None);
+        };
+        left = rest;
+    }
+    Ok(Some(left))
+}
+
 // Takes what is tried for a data part as it looks.
 fn take_looks<A: Allocator + Copy>(
     alloc: A,
     part: &[u8],
     slips: usize,
-    mut left: Budget,
+    left: Budget,
 ) -> Result<Option<Budget>, AllocError>
     requires { slips ≤ 2 }
     ensures { IfOk result (IsTaken left
@@ -159,14 +184,7 @@ fn take_looks<A: Allocator + Copy>(
     if twos > MAX_TWOS {
         return Ok(Some(left));
     }
-    for i in 0..ways_to_read(twos) {
-        let read = reading(alloc, part, i)?;
-        let Some(rest) = take_reading(alloc, read.as_slice(), slips, left)? else {
-            return Ok(None);
-        };
-        left = rest;
-    }
-    Ok(Some(left))
+    take_readings(alloc, part, ways_to_read(twos), slips, left)
 }
 
 // Takes what is tried for a data part with characters unread.
@@ -203,11 +221,11 @@ fn take_front<A: Allocator + Copy>(
     pass: Pass,
     text: &[u8],
     slips: usize,
-    front: &Front,
+    front: Front,
     left: Budget,
 ) -> Result<Option<Budget>, AllocError>
     requires { slips ≤ 2 }
-    ensures { IfOk result (IsTaken left (tries_of_front pass text.now slips front.now)) }
+    ensures { IfOk result (IsTaken left (tries_of_front pass text.now slips front)) }
 {
     if front.slips > slips {
         return Ok(Some(left));
@@ -217,6 +235,14 @@ fn take_front<A: Allocator + Copy>(
         Pass::AsItLooks => take_looks(alloc, part, slips - front.slips, left),
         Pass::Unread => take_unread(alloc, part, slips - front.slips, left),
     }
+}
+
+// A front of some.
+pub(crate) fn front_at(fronts: &[Front], i: usize) -> Front
+    requires { i < length fronts.now }
+    ensures { result ≡ get_or fronts.now i (front_of 0 0) }
+{
+    fronts[i]
 }
 
 // Takes what is tried with so many slips.
@@ -231,7 +257,8 @@ fn take_level<A: Allocator + Copy>(
     requires { slips ≤ 2 }
     ensures { IfOk result (IsTaken left (level pass text.now fronts.now slips)) }
 {
-    for front in fronts {
+    for i in 0..fronts.len() {
+        let front = front_at(fronts, i);
         let Some(rest) = take_front(alloc, pass, text, slips, front, left)? else {
             return Ok(None);
         };

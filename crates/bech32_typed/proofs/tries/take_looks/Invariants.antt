@@ -1,9 +1,0 @@
-use Rattle.std.proofs.Common.{Some}
-use Rattle.std.specs.List.{flat_map, range_with_len}
-use Rattle.bech32_typed.specs.Readings.{reading_at}
-use Rattle.bech32_typed.specs.Tries.{IsTaken, tries_of_reading}
-use Rattle.bech32_typed.proofs.tries.take_looks.Given as goal
-
-abbrev pub invariant-loop-i : goal.invariant-loop-i
-invariant-loop-i g l =
-    IsTaken l.initial.left (flat_map (λ i. tries_of_reading l.slips (reading_at l.part i)) (range_with_len 0 l.i)) (Some l.left)
