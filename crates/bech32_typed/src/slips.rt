@@ -26,7 +26,7 @@ pub enum Slip {
 }
 
 /// Joins three parts.
-pub(crate) fn joined(front: &[u8], middle: &[u8], behind: &[u8]) -> Frame
+pub fn joined(front: &[u8], middle: &[u8], behind: &[u8]) -> Frame
     requires { length front.now + length middle.now + length behind.now ≤ 62 }
     ensures { result.items ≡ front.now ++ (middle.now ++ behind.now) }
 {

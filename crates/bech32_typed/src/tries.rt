@@ -25,13 +25,13 @@ pub enum Pass {
 
 /// The most texts that are tried: of 100 texts that are no mistyped addresses, one answer is
 /// expected at most.
-pub(crate) const MAX_TEXTS: u64 = 10_737_418;
+pub const MAX_TEXTS: u64 = 10_737_418;
 
 /// The most tries that are made.
-pub(crate) const MAX_TRIES: u64 = 65_536;
+pub const MAX_TRIES: u64 = 65_536;
 
 /// The most characters that look like two: 1,024 readings.
-pub(crate) const MAX_TWOS: usize = 10;
+pub const MAX_TWOS: usize = 10;
 
 // In how many ways so many places are chosen, of two at most.
 fn ways(places: u64, errors: usize) -> u64
@@ -138,8 +138,8 @@ fn take_reading<A: Allocator + Copy>(
     Ok(Some(left))
 }
 
-// In how many ways a part is read in which so many characters look like two.
-fn ways_to_read(twos: usize) -> usize
+/// In how many ways a part is read in which so many characters look like two.
+pub fn ways_to_read(twos: usize) -> usize
     requires { twos ≤ 10 }
     ensures { result ≡ 2 ^ twos }
 {
@@ -205,8 +205,8 @@ fn take_unread<A: Allocator + Copy>(
     take_reading(alloc, read.as_slice(), slips, left)
 }
 
-// What comes after a front.
-pub(crate) fn after(text: &[u8], size: usize) -> &[u8]
+/// What comes after a front.
+pub fn after(text: &[u8], size: usize) -> &[u8]
     ensures { result.now ≡ drop size text.now }
 {
     if size > text.len() {
@@ -237,8 +237,8 @@ fn take_front<A: Allocator + Copy>(
     }
 }
 
-// A front of some.
-pub(crate) fn front_at(fronts: &[Front], i: usize) -> Front
+/// One of some fronts.
+pub fn front_at(fronts: &[Front], i: usize) -> Front
     requires { i < length fronts.now }
     ensures { result ≡ get_or fronts.now i (front_of 0 0) }
 {

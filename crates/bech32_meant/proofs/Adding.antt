@@ -1,0 +1,48 @@
+-- Which texts are added to those that are found.
+use Rattle.std.proofs.Common.{◌≡◌, ◌⊎◌, ◌∙◌, ◌+◌, ◌<◌, ◌≤◌, ℕ, zero, suc, List, [], ◌∷◌, ◌++◌, drop, get_or, length, map, take, inl, inr, refl, sym, ap, subst, arith}
+use Rattle.std.proofs.lemmas.List.{map_more, map-append, take_all}
+use Rattle.std.proofs.lemmas.Simd.{map-map}
+use Rattle.bech32_poly.specs.Distinct.{IsAmong}
+use Rattle.bech32_meant.specs.Added.{AddsAll, AddsIf, Answer, IsFound}
+
+module _ (P : List ℕ → Type 0) (slips : ℕ) {M : Type 0} (f : M → Answer) (text : List ℕ) where
+  -- a text among those that are found is not added
+  pub passed_told : (items : List M) → IsAmong text (map (λ m. (f m).0) items) → AddsIf P slips (map f items) text (map f items)
+  passed_told items m = inr (inr (subst (λ (l : List (List ℕ)). IsAmong text l) (sym (map-map (λ (a : Answer). a.0) f items)) m), refl)
+
+  -- one without the property is not
+  pub failed_told : (items : List M) → (P text → ⊥) → AddsIf P slips (map f items) text (map f items)
+  failed_told items no = inr (inl no, refl)
+
+  -- another one is
+  pub added_told : (items after : List M) (m : M) → (IsAmong text (map (λ m. (f m).0) items) → ⊥) → P text → after ≡ items ++ m ∷ [] → f m ≡ (text, slips)
+      → AddsIf P slips (map f items) text (map f after)
+  added_told items after m other is behind told =
+      inl (
+        (is, λ n. other (subst (λ (l : List (List ℕ)). IsAmong text l) (map-map (λ (a : Answer). a.0) f items) n)),
+        ap (map f) behind ∙ map-append f items (m ∷ []) ∙ ap (λ (a : Answer). map f items ++ a ∷ []) told,
+      )
+
+-- ---- several are added, one after another
+
+module _ {X : Type 0} (Adds : List Answer → X → List Answer → Type 0) where
+  -- in two parts
+  pub adds-append : (before middle after : List Answer) (xs ys : List X) → AddsAll Adds before xs middle → AddsAll Adds middle ys after → AddsAll Adds before (xs ++ ys) after
+  adds-append before middle after [] ys same rest = subst (λ (b : List Answer). AddsAll Adds b ys after) same rest
+  adds-append before middle after (x ∷ xs) ys h rest = (h.0, h.1, adds-append h.0 middle after xs ys h.2 rest)
+
+  -- one more
+  pub adds-more : (before middle after : List Answer) (xs : List X) (x : X) → AddsAll Adds before xs middle → Adds middle x after → AddsAll Adds before (xs ++ x ∷ []) after
+  adds-more before middle after xs x so_far one = adds-append before middle after xs (x ∷ []) so_far (after, one, refl)
+
+  module _ {M : Type 0} (f : M → X) (items : List M) (before : List Answer) where
+    -- one more of what a function makes of items
+    pub more_of : (middle after : List Answer) (i : ℕ) (d : M) → i < length items → AddsAll Adds before (map f (take i items)) middle
+        → Adds middle (f (get_or items i d)) after → AddsAll Adds before (map f (take (i + 1) items)) after
+    more_of middle after i d less so_far one =
+        subst (λ (l : List X). AddsAll Adds before l after) (sym (map_more f items i d less))
+        (adds-more before middle after (map f (take i items)) (f (get_or items i d)) so_far one)
+
+    -- all are added
+    pub all_of : (after : List Answer) (i : ℕ) → length items ≤ i → AddsAll Adds before (map f (take i items)) after → AddsAll Adds before (map f items) after
+    all_of after i whole h = subst (λ (l : List M). AddsAll Adds before (map f l) after) (take_all i items whole) h

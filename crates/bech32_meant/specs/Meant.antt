@@ -1,0 +1,1 @@
+-- Which addresses someone may have meant who typed a text.
