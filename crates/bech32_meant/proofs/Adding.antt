@@ -2,8 +2,13 @@
 use Rattle.std.proofs.Common.{◌≡◌, ◌⊎◌, ◌∙◌, ◌+◌, ◌<◌, ◌≤◌, ℕ, zero, suc, List, [], ◌∷◌, ◌++◌, drop, get_or, length, map, take, inl, inr, refl, sym, ap, subst, arith}
 use Rattle.std.proofs.lemmas.List.{map_more, map-append, take_all}
 use Rattle.std.proofs.lemmas.Simd.{map-map}
+use Rattle.std.specs.Prelude.{Err, Ok, OnOk, Result}
+use Rattle.bech32_gf.specs.declared.gf32.Fe32.{Fe32}
 use Rattle.bech32_poly.specs.Distinct.{IsAmong}
-use Rattle.bech32_meant.specs.Added.{AddsAll, AddsIf, Answer, IsFound}
+use Rattle.bech32_checksum.specs.Code.{Code}
+use Rattle.bech32_near.specs.NearTexts.{AreNearTexts}
+use Rattle.bech32_suggest.specs.Suggestions.{near_bound}
+use Rattle.bech32_meant.specs.Added.{AddsAll, AddsIf, AddsNear, Answer, IsWanted}
 
 module _ (P : List ℕ → Type 0) (slips : ℕ) {M : Type 0} (f : M → Answer) (text : List ℕ) where
   -- a text among those that are found is not added
@@ -12,7 +17,7 @@ module _ (P : List ℕ → Type 0) (slips : ℕ) {M : Type 0} (f : M → Answer)
 
   -- one without the property is not
   pub failed_told : (items : List M) → (P text → ⊥) → AddsIf P slips (map f items) text (map f items)
-  failed_told items no = inr (inl no, refl)
+  failed_told items fails = inr (inl fails, refl)
 
   -- another one is
   pub added_told : (items after : List M) (m : M) → (IsAmong text (map (λ m. (f m).0) items) → ⊥) → P text → after ≡ items ++ m ∷ [] → f m ≡ (text, slips)
@@ -46,3 +51,19 @@ module _ {X : Type 0} (Adds : List Answer → X → List Answer → Type 0) wher
     -- all are added
     pub all_of : (after : List Answer) (i : ℕ) → length items ≤ i → AddsAll Adds before (map f (take i items)) after → AddsAll Adds before (map f items) after
     all_of after i whole h = subst (λ (l : List M). AddsAll Adds before (map f l) after) (take_all i items whole) h
+
+-- ---- the texts near one
+
+module _ {M R E : Type 0} (hrp : List ℕ) (slips : ℕ) (code : Code) (text : List ℕ) (before after : List Answer) (items shown : List M) (r : Result R E) (same : shown ≡ items) where
+  pub adds_near : (f : M → List (ℕ × Fe32) × List ℕ) (given : List ℕ) (errors : ℕ) → AreNearTexts code near_bound text given errors (map f items)
+      → OnOk r (AddsAll (AddsIf (IsWanted hrp) slips) before (map (λ m. (f m).1) shown) after) → OnOk r (AddsNear code hrp slips errors text given before after)
+  adds_near f given errors are added =
+      on_ok r (λ h. record {
+        near = map f items;
+        are = are;
+        adds = subst (λ (l : List (List ℕ)). AddsAll (AddsIf (IsWanted hrp) slips) before l after) (ap (map (λ m. (f m).1)) same ∙ sym (map-map (λ p. p.1) f items)) h;
+      }) added
+    where
+      on_ok : {P Q : Type 0} (r : Result R E) → (P → Q) → OnOk r P → OnOk r Q
+      on_ok (Ok x) more h = more h
+      on_ok (Err e) more h = tt

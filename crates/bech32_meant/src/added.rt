@@ -1,19 +1,22 @@
 //! How answers are added to those that are found.
 
-ghost use Rattle.std.specs.Prelude.{◌≡◌, ◌≤◌, ◌↔◌, ◌++◌, ℕ, List, IfOk, IsTrue, OnOk, length, map, string_bytes};
-ghost use Rattle.bech32_checksum.specs.Code.{Code};
+ghost use Rattle.std.specs.Prelude.{◌≡◌, ◌≤◌, ◌↔◌, ◌++◌, IfOk, IsTrue, OnOk, length, map, string_bytes, true};
 ghost use Rattle.bech32_decode.specs.Parts.{address_program, address_version};
-ghost use Rattle.bech32_decode.specs.Refusals.{HasLengths};
 ghost use Rattle.bech32_hrp.specs.HrpBytes.{hrp_bytes};
 ghost use Rattle.bech32_poly.specs.Distinct.{IsAmong};
 ghost use Rattle.bech32_suggest.specs.Forms.{IsAddressInUse, IsFormInUse};
-ghost use Rattle.bech32_suggest.specs.Suggestions.{IsAddressUnder};
-ghost use Rattle.bech32_meant.specs.Added.{AddsAll, AddsIf, AddsNear, IsWanted};
+ghost use Rattle.bech32_suggest.specs.Suggestions.{IsAddressUnder, either_code, near_bound};
+ghost use Rattle.bech32_near.specs.NearTexts.{AreNearTexts};
+ghost use Rattle.bech32_suggest.specs.Typed.{as_read, typed_character, unread_locations};
+ghost use Rattle.bech32_typed.specs.Frames.{is_size};
+ghost use Rattle.bech32_meant.specs.Added.{AddsAll, AddsByBoth, AddsFrame, AddsIf, AddsNear, IsWanted, front_for};
 
-use bech32_checksum::CorrectingChecksum;
+use bech32_checksum::{Bech32, Bech32m};
+use bech32_correction::Mended;
 use bech32_decode::{Reading, SegwitHrpstring};
 use bech32_hrp::Hrp;
 use bech32_near::nearest_to_reading;
+use bech32_suggest::AsText;
 use bech32_refusals::segwit::{KEY_HASH_LENGTH, SCRIPT_HASH_LENGTH};
 use std::alloc::{AllocError, Allocator};
 
@@ -24,6 +27,17 @@ pub struct Meant<S> {
     pub text: S,
     /// How many slips lead from it to what was typed.
     pub slips: usize,
+}
+
+/// What is looked for.
+#[derive(Clone, Copy)]
+pub(crate) struct Asked<'a> {
+    /// The human-readable part.
+    pub(crate) hrp: &'a Hrp,
+    /// How many slips an answer takes.
+    pub(crate) slips: usize,
+    /// How many of its characters are wrong, beside those that cannot be read.
+    pub(crate) errors: usize,
 }
 
 // Whether a text is an address with a human-readable part.
@@ -99,4 +113,138 @@ fn push_one<A: Allocator + Copy>(
     let text = String::from_str(alloc, text)?;
     found.push(Meant { text, slips })?;
     Ok(())
+}
+
+// Adds each text that is wanted and not among those that are found.
+fn push_each<A: Allocator + Copy, T: AsText>(
+    alloc: A,
+    hrp: &Hrp,
+    slips: usize,
+    texts: &[T],
+    found: &mut Vec<Meant<String<A>>, A>,
+) -> Result<(), AllocError>
+    ensures { OnOk result (AddsAll (AddsIf (IsWanted (hrp_bytes hrp.now)) slips)
+        (map (λ s. (string_bytes s.text, s.slips)) found.old.items) (map T.text_of texts.now)
+        (map (λ s. (string_bytes s.text, s.slips)) found.new.items)) }
+{
+    for one in texts {
+        push_one(alloc, hrp, slips, one.as_text(), found)?;
+    }
+    Ok(())
+}
+
+// The texts near one that was read: by Bech32m, or by Bech32, whose generator is the same.
+fn near_by<'a, A: Allocator>(
+    alloc: &'a A,
+    reading: &Reading<'_, Bech32m>,
+    is_bech32m: bool,
+    unread: &[usize],
+    errors: usize,
+) -> Result<Vec<Mended<&'a A>, &'a A>, AllocError>
+    requires { (length reading.now.text.now ≤ 1023) × (6 ≤ length reading.now.data_part.now) }
+    ensures { IfOk result (λ near. AreNearTexts (either_code is_bech32m) near_bound
+        reading.now.text.now unread.now errors
+        (map (λ m. (m.listing, string_bytes m.text)) near.items)) }
+{
+    if is_bech32m {
+        let near = nearest_to_reading::<Bech32m, &A>(alloc, reading, unread, errors)?;
+        return Ok(near.texts);
+    }
+    let near = nearest_to_reading::<Bech32, &A>(alloc, &reading.by_bech32(), unread, errors)?;
+    Ok(near.texts)
+}
+
+// Adds the addresses near a text that was read, by Bech32m or by Bech32.
+fn push_near<A: Allocator + Copy>(
+    alloc: &A,
+    reading: &Reading<'_, Bech32m>,
+    is_bech32m: bool,
+    unread: &[usize],
+    asked: &Asked<'_>,
+    found: &mut Vec<Meant<String<A>>, A>,
+) -> Result<(), AllocError>
+    requires { (length reading.now.text.now ≤ 1023) × (6 ≤ length reading.now.data_part.now) }
+    ensures { OnOk result (AddsNear (either_code is_bech32m) (hrp_bytes asked.now.hrp.now)
+        asked.now.slips asked.now.errors reading.now.text.now unread.now
+        (map (λ s. (string_bytes s.text, s.slips)) found.old.items)
+        (map (λ s. (string_bytes s.text, s.slips)) found.new.items)) }
+{
+    let near = near_by(alloc, reading, is_bech32m, unread, asked.errors)?;
+    push_each(*alloc, asked.hrp, asked.slips, near.as_slice(), found)
+}
+
+// Adds the addresses near a text that was read, by Bech32 and then by Bech32m.
+fn push_by_both<A: Allocator + Copy>(
+    alloc: &A,
+    reading: &Reading<'_, Bech32m>,
+    unread: &[usize],
+    asked: &Asked<'_>,
+    found: &mut Vec<Meant<String<A>>, A>,
+) -> Result<(), AllocError>
+    requires { (length reading.now.text.now ≤ 1023) × (6 ≤ length reading.now.data_part.now) }
+    ensures { OnOk result (AddsByBoth (hrp_bytes asked.now.hrp.now)
+        asked.now.slips asked.now.errors reading.now.text.now unread.now
+        (map (λ s. (string_bytes s.text, s.slips)) found.old.items)
+        (map (λ s. (string_bytes s.text, s.slips)) found.new.items)) }
+{
+    push_near(alloc, reading, false, unread, asked, found)?;
+    push_near(alloc, reading, true, unread, asked, found)?;
+    Ok(())
+}
+
+// The front and a frame behind it, as a text: `0` for each character that cannot be read.
+fn text_of<A: Allocator>(alloc: A, front: &[u8], frame: &[u8]) -> Result<Vec<u8, A>, AllocError>
+    ensures { IfOk result (λ v. v.items ≡ front.now ++ as_read frame.now) }
+{
+    let mut text = Vec::new(alloc);
+    text.extend_from_slice(front)?;
+    for c in frame {
+        text.push(read_of(*c))?;
+    }
+    Ok(text)
+}
+
+// A character as it is read: `?` as `0`.
+fn read_of(c: u8) -> u8
+    ensures { result ≡ typed_character c }
+{
+    if c == b'?' { b'0' } else { c }
+}
+
+// The locations of the characters of a frame that cannot be read; location 0 is the last.
+fn unread_of<A: Allocator>(alloc: A, frame: &[u8]) -> Result<Vec<usize, A>, AllocError>
+    ensures { IfOk result (λ v. v.items ≡ unread_locations frame.now) }
+{
+    let mut locations = Vec::new(alloc);
+    let mut location = frame.len();
+    for c in frame {
+        location -= 1;
+        if *c != b'?' {
+            continue;
+        }
+        locations.push(location)?;
+    }
+    Ok(locations)
+}
+
+// Adds what a frame finds behind the front.
+fn push_frame<A: Allocator + Copy>(
+    alloc: &A,
+    front: &[u8],
+    frame: &[u8],
+    asked: &Asked<'_>,
+    found: &mut Vec<Meant<String<A>>, A>,
+) -> Result<(), AllocError>
+    requires front { front.now ≡ front_for (hrp_bytes asked.now.hrp.now) }
+    requires size { is_size (length frame.now) ≡ true }
+    ensures { OnOk result (AddsFrame (hrp_bytes asked.now.hrp.now) asked.now.slips asked.now.errors
+        (map (λ s. (string_bytes s.text, s.slips)) found.old.items) frame.now
+        (map (λ s. (string_bytes s.text, s.slips)) found.new.items)) }
+{
+    let text = text_of(*alloc, front, frame)?;
+    let Ok(reading) = Reading::<Bech32m>::from_bytes(text.as_slice()) else {
+        return Ok(());
+    };
+    let unread = unread_of(*alloc, frame)?;
+    push_by_both(alloc, &reading, unread.as_slice(), asked, found)
 }
