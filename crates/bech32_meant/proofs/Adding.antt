@@ -1,6 +1,9 @@
 -- Which texts are added to those that are found.
-use Rattle.std.proofs.Common.{◌≡◌, ◌⊎◌, ◌∙◌, ◌+◌, ◌<◌, ◌≤◌, ℕ, zero, suc, List, [], ◌∷◌, ◌++◌, drop, get_or, length, map, take, inl, inr, refl, sym, ap, subst, arith}
-use Rattle.std.proofs.lemmas.List.{map_more, map-append, take_all}
+use Rattle.std.proofs.Common.{◌≡◌, ◌⊎◌, ◌∙◌, ◌+◌, ◌<◌, ◌≤◌, ℕ, List, [], ◌∷◌, ◌++◌, append-nil, get_or, length, map, map-id, take, inl, inr, refl, sym, ap, subst, arith}
+use Rattle.std.specs.List.{flat_map, range_with_len}
+use Rattle.std.proofs.lemmas.List.{map_more, map-append, take_all, take_more}
+use Rattle.std.proofs.lemmas.List.Concat.{flat_map-append}
+use Rattle.std.proofs.lemmas.List.FromFn.{map-range_with_len_more}
 use Rattle.std.proofs.lemmas.Simd.{map-map}
 use Rattle.std.specs.Prelude.{Err, Ok, OnOk, Result}
 use Rattle.bech32_gf.specs.declared.gf32.Fe32.{Fe32}
@@ -67,3 +70,23 @@ module _ {M R E : Type 0} (hrp : List ℕ) (slips : ℕ) (code : Code) (text : L
       on_ok : {P Q : Type 0} (r : Result R E) → (P → Q) → OnOk r P → OnOk r Q
       on_ok (Ok x) more h = more h
       on_ok (Err e) more h = tt
+
+-- ---- what a function makes of numbers or items, one after another
+
+module _ {X Y : Type 0} (Adds : List Answer → Y → List Answer → Type 0) (f : X → List Y) (before middle after : List Answer) where
+  pub adds-next_item : (xs : List X) (i : ℕ) (d : X) → i < length xs → AddsAll Adds before (flat_map f (take i xs)) middle
+      → AddsAll Adds middle (f (get_or xs i d)) after → AddsAll Adds before (flat_map f (take (i + 1) xs)) after
+  adds-next_item xs i d inside so_far one =
+      let parts : flat_map f (take (i + 1) xs) ≡ flat_map f (take i xs) ++ f (get_or xs i d) =
+          ap (flat_map f) (take_more xs i d inside) ∙ flat_map-append f (take i xs) (get_or xs i d ∷ []) ∙ ap (λ ts. flat_map f (take i xs) ++ ts) (append-nil (f (get_or xs i d))) in
+      subst (λ (ts : List Y). AddsAll Adds before ts after) (sym parts) (adds-append Adds before middle after (flat_map f (take i xs)) (f (get_or xs i d)) so_far one)
+
+module _ {Y : Type 0} (Adds : List Answer → Y → List Answer → Type 0) (f : ℕ → List Y) (before middle after : List Answer) (i : ℕ) where
+  pub adds-next_number : AddsAll Adds before (flat_map f (range_with_len 0 i)) middle → AddsAll Adds middle (f i) after
+      → AddsAll Adds before (flat_map f (range_with_len 0 (i + 1))) after
+  adds-next_number so_far one =
+      let last : range_with_len 0 (i + 1) ≡ range_with_len 0 i ++ i ∷ [] =
+          sym (map-id (range_with_len 0 (i + 1))) ∙ map-range_with_len_more (λ k. k) 0 i i (omega arith) ∙ ap (λ l. l ++ i ∷ []) (map-id (range_with_len 0 i)) in
+      let parts : flat_map f (range_with_len 0 (i + 1)) ≡ flat_map f (range_with_len 0 i) ++ f i =
+          ap (flat_map f) last ∙ flat_map-append f (range_with_len 0 i) (i ∷ []) ∙ ap (λ ts. flat_map f (range_with_len 0 i) ++ ts) (append-nil (f i)) in
+      subst (λ (ts : List Y). AddsAll Adds before ts after) (sym parts) (adds-append Adds before middle after (flat_map f (range_with_len 0 i)) (f i) so_far one)

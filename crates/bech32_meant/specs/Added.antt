@@ -1,11 +1,11 @@
 -- How answers are added to those that are found: addresses in use, each once.
-use Rattle.std.specs.Prelude.{◌≡◌, ◌⊎◌, ◌++◌, ◌==◌, ◌&&◌, ℕ, List, [], ◌∷◌, map, MatchOption, if◌then◌else◌}
+use Rattle.std.specs.Prelude.{◌≡◌, ◌≤◌, ◌⊎◌, ◌++◌, ◌==◌, ℕ, List, [], ◌∷◌, length, map, if◌then◌else◌}
 use Rattle.bech32_gf.specs.Alphabet.{alphabet}
 use Rattle.bech32_gf.specs.declared.gf32.Fe32.{Fe32}
 use Rattle.bech32_poly.specs.Distinct.{IsAmong}
 use Rattle.bech32_hrp.specs.Hrp.{lowered}
 use Rattle.bech32_checksum.specs.Code.{Code, bech32, bech32m}
-use Rattle.bech32_decode.specs.Text.{text_refusal}
+use Rattle.bech32_decode.specs.Text.{IsText}
 use Rattle.bech32_near.specs.NearTexts.{AreNearTexts}
 use Rattle.bech32_suggest.specs.Forms.{IsAddressInUse}
 use Rattle.bech32_suggest.specs.Suggestions.{IsAddressUnder, near_bound}
@@ -56,13 +56,21 @@ AddsByBoth hrp slips errors text given before after =
 abbrev pub front_for : List ℕ → List ℕ
 front_for hrp = lowered hrp ++ 49 ∷ []
 
--- the same of a frame behind the part, where that is a text
+-- the text is in the grammar, with at most 1,023 characters, and has a checksum
+pub record HasChecksum (text : List ℕ) : Type 0 where
+  pub short : length text ≤ 1023
+  pub hrp : List ℕ
+  pub data_part : List ℕ
+  pub grammar : IsText text hrp data_part
+  pub checked : 6 ≤ length data_part
+
+-- the same of a frame after the part, where that makes such a text
 abbrev pub AddsFrame : List ℕ → ℕ → ℕ → List Answer → List ℕ → List Answer → Type 0
 AddsFrame hrp slips errors before frame after =
-    MatchOption (text_refusal (front_for hrp ++ as_read frame))
-    (AddsByBoth hrp slips errors (front_for hrp ++ as_read frame) (unread_locations frame)
+    (HasChecksum (front_for hrp ++ as_read frame)
+    × AddsByBoth hrp slips errors (front_for hrp ++ as_read frame) (unread_locations frame)
     before after)
-    (λ _. after ≡ before)
+    ⊎ ((HasChecksum (front_for hrp ++ as_read frame) → ⊥) × (after ≡ before))
 
 -- the first character that cannot be read is this one
 abbrev pub with_first : List ℕ → ℕ → List ℕ

@@ -1,6 +1,6 @@
 //! How answers are added to those that are found.
 
-ghost use Rattle.std.specs.Prelude.{◌≡◌, ◌≤◌, ◌↔◌, ◌++◌, IfOk, IsTrue, OnOk, length, map, string_bytes, true};
+ghost use Rattle.std.specs.Prelude.{◌≡◌, ◌≤◌, ◌↔◌, ◌++◌, IfOk, IsTrue, MatchOption, OnOk, length, map, string_bytes};
 ghost use Rattle.bech32_decode.specs.Parts.{address_program, address_version};
 ghost use Rattle.bech32_hrp.specs.HrpBytes.{hrp_bytes};
 ghost use Rattle.bech32_poly.specs.Distinct.{IsAmong};
@@ -8,8 +8,7 @@ ghost use Rattle.bech32_suggest.specs.Forms.{IsAddressInUse, IsFormInUse};
 ghost use Rattle.bech32_suggest.specs.Suggestions.{IsAddressUnder, either_code, near_bound};
 ghost use Rattle.bech32_near.specs.NearTexts.{AreNearTexts};
 ghost use Rattle.bech32_suggest.specs.Typed.{as_read, typed_character, unread_locations};
-ghost use Rattle.bech32_typed.specs.Frames.{is_size};
-ghost use Rattle.bech32_meant.specs.Added.{AddsAll, AddsByBoth, AddsFrame, AddsIf, AddsNear, IsWanted, front_for};
+ghost use Rattle.bech32_meant.specs.Added.{AddsAll, AddsByBoth, AddsFrame, AddsIf, AddsNear, HasChecksum, IsWanted, front_for};
 
 use bech32_checksum::{Bech32, Bech32m};
 use bech32_correction::Mended;
@@ -227,24 +226,41 @@ fn unread_of<A: Allocator>(alloc: A, frame: &[u8]) -> Result<Vec<usize, A>, Allo
     Ok(locations)
 }
 
-// Adds what a frame finds behind the front.
-fn push_frame<A: Allocator + Copy>(
+// Reads a text that has a checksum.
+fn checked(text: &[u8]) -> Option<Reading<'_, Bech32m>>
+    ensures { MatchOption result (HasChecksum text.now → ⊥)
+        (λ r. HasChecksum text.now × ((r.text.now ≡ text.now) × (6 ≤ length r.data_part.now))) }
+{
+    if text.len() > 1023 {
+        return None;
+    }
+    let Ok(reading) = Reading::<Bech32m>::from_bytes(text) else {
+        return None;
+    };
+    if reading.data_part.len() < 6 {
+        return None;
+    }
+    Some(reading)
+}
+
+// Adds what a frame finds after the front.
+pub(crate) fn push_frame<A: Allocator + Copy>(
     alloc: &A,
     front: &[u8],
     frame: &[u8],
     asked: &Asked<'_>,
     found: &mut Vec<Meant<String<A>>, A>,
 ) -> Result<(), AllocError>
-    requires front { front.now ≡ front_for (hrp_bytes asked.now.hrp.now) }
-    requires size { is_size (length frame.now) ≡ true }
+    requires { front.now ≡ front_for (hrp_bytes asked.now.hrp.now) }
     ensures { OnOk result (AddsFrame (hrp_bytes asked.now.hrp.now) asked.now.slips asked.now.errors
         (map (λ s. (string_bytes s.text, s.slips)) found.old.items) frame.now
         (map (λ s. (string_bytes s.text, s.slips)) found.new.items)) }
 {
     let text = text_of(*alloc, front, frame)?;
-    let Ok(reading) = Reading::<Bech32m>::from_bytes(text.as_slice()) else {
+    let Some(reading) = checked(text.as_slice()) else {
         return Ok(());
     };
     let unread = unread_of(*alloc, frame)?;
-    push_by_both(alloc, &reading, unread.as_slice(), asked, found)
+    push_by_both(alloc, &reading, unread.as_slice(), asked, found)?;
+    Ok(())
 }

@@ -5,5 +5,6 @@
 #![tactic(auto)]
 
 mod added;
+mod tried;
 
 pub use self::added::Meant;
