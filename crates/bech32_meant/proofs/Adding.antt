@@ -90,3 +90,12 @@ module _ {Y : Type 0} (Adds : List Answer → Y → List Answer → Type 0) (f :
       let parts : flat_map f (range_with_len 0 (i + 1)) ≡ flat_map f (range_with_len 0 i) ++ f i =
           ap (flat_map f) last ∙ flat_map-append f (range_with_len 0 i) (i ∷ []) ∙ ap (λ ts. flat_map f (range_with_len 0 i) ++ ts) (append-nil (f i)) in
       subst (λ (ts : List Y). AddsAll Adds before ts after) (sym parts) (adds-append Adds before middle after (flat_map f (range_with_len 0 i)) (f i) so_far one)
+
+module _ {X Y Z : Type 0} (Adds : List Answer → Z → List Answer → Type 0) (g : Y → Z) (f : X → Y) (before middle after : List Answer) where
+  -- the same of what two functions make
+  pub adds-next_made : (xs : List X) (i : ℕ) (d : X) → i < length xs → AddsAll Adds before (map g (map f (take i xs))) middle
+      → Adds middle (g (f (get_or xs i d))) after → AddsAll Adds before (map g (map f (take (i + 1) xs))) after
+  adds-next_made xs i d inside so_far one =
+      let parts : map g (map f (take (i + 1) xs)) ≡ map g (map f (take i xs)) ++ g (f (get_or xs i d)) ∷ [] =
+          ap (map g) (map_more f xs i d inside) ∙ map-append g (map f (take i xs)) (f (get_or xs i d) ∷ []) in
+      subst (λ (ts : List Z). AddsAll Adds before ts after) (sym parts) (adds-more Adds before middle after (map g (map f (take i xs))) (g (f (get_or xs i d))) so_far one)

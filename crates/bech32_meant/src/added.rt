@@ -35,8 +35,6 @@ pub(crate) struct Asked<'a> {
     pub(crate) hrp: &'a Hrp,
     /// How many slips an answer takes.
     pub(crate) slips: usize,
-    /// How many of its characters are wrong, beside those that cannot be read.
-    pub(crate) errors: usize,
 }
 
 // Whether a text is an address with a human-readable part.
@@ -159,16 +157,17 @@ fn push_near<A: Allocator + Copy>(
     reading: &Reading<'_, Bech32m>,
     is_bech32m: bool,
     unread: &[usize],
+    errors: usize,
     asked: &Asked<'_>,
     found: &mut Vec<Meant<String<A>>, A>,
 ) -> Result<(), AllocError>
     requires { (length reading.now.text.now ≤ 1023) × (6 ≤ length reading.now.data_part.now) }
     ensures { OnOk result (AddsNear (either_code is_bech32m) (hrp_bytes asked.now.hrp.now)
-        asked.now.slips asked.now.errors reading.now.text.now unread.now
+        asked.now.slips errors reading.now.text.now unread.now
         (map (λ s. (string_bytes s.text, s.slips)) found.old.items)
         (map (λ s. (string_bytes s.text, s.slips)) found.new.items)) }
 {
-    let near = near_by(alloc, reading, is_bech32m, unread, asked.errors)?;
+    let near = near_by(alloc, reading, is_bech32m, unread, errors)?;
     push_each(*alloc, asked.hrp, asked.slips, near.as_slice(), found)
 }
 
@@ -177,17 +176,18 @@ fn push_by_both<A: Allocator + Copy>(
     alloc: &A,
     reading: &Reading<'_, Bech32m>,
     unread: &[usize],
+    errors: usize,
     asked: &Asked<'_>,
     found: &mut Vec<Meant<String<A>>, A>,
 ) -> Result<(), AllocError>
     requires { (length reading.now.text.now ≤ 1023) × (6 ≤ length reading.now.data_part.now) }
     ensures { OnOk result (AddsByBoth (hrp_bytes asked.now.hrp.now)
-        asked.now.slips asked.now.errors reading.now.text.now unread.now
+        asked.now.slips errors reading.now.text.now unread.now
         (map (λ s. (string_bytes s.text, s.slips)) found.old.items)
         (map (λ s. (string_bytes s.text, s.slips)) found.new.items)) }
 {
-    push_near(alloc, reading, false, unread, asked, found)?;
-    push_near(alloc, reading, true, unread, asked, found)?;
+    push_near(alloc, reading, false, unread, errors, asked, found)?;
+    push_near(alloc, reading, true, unread, errors, asked, found)?;
     Ok(())
 }
 
@@ -248,11 +248,12 @@ pub(crate) fn push_frame<A: Allocator + Copy>(
     alloc: &A,
     front: &[u8],
     frame: &[u8],
+    errors: usize,
     asked: &Asked<'_>,
     found: &mut Vec<Meant<String<A>>, A>,
 ) -> Result<(), AllocError>
     requires { front.now ≡ front_for (hrp_bytes asked.now.hrp.now) }
-    ensures { OnOk result (AddsFrame (hrp_bytes asked.now.hrp.now) asked.now.slips asked.now.errors
+    ensures { OnOk result (AddsFrame (hrp_bytes asked.now.hrp.now) asked.now.slips errors
         (map (λ s. (string_bytes s.text, s.slips)) found.old.items) frame.now
         (map (λ s. (string_bytes s.text, s.slips)) found.new.items)) }
 {
@@ -261,6 +262,6 @@ pub(crate) fn push_frame<A: Allocator + Copy>(
         return Ok(());
     };
     let unread = unread_of(*alloc, frame)?;
-    push_by_both(alloc, &reading, unread.as_slice(), asked, found)?;
+    push_by_both(alloc, &reading, unread.as_slice(), errors, asked, found)?;
     Ok(())
 }

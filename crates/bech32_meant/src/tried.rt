@@ -31,30 +31,53 @@ fn with_first_unread(frame: &[u8], c: u8) -> Frame
     joined(frame, &[], &[])
 }
 
-// Adds what a frame finds: by the checksums, or, where four characters cannot be read, with each
-// character of the alphabet for the first of them.
-fn push_filled<A: Allocator + Copy>(
+// Adds what a frame finds with each of these characters for the first that cannot be read.
+fn push_with_each<A: Allocator + Copy>(
     alloc: &A,
     front: &[u8],
     frame: &[u8],
+    characters: &[u8],
+    errors: usize,
     asked: &Asked<'_>,
     found: &mut Vec<Meant<String<A>>, A>,
 ) -> Result<(), AllocError>
     requires short { length frame.now ≤ 62 }
     requires front { front.now ≡ front_for (hrp_bytes asked.now.hrp.now) }
     ensures { OnOk result (AddsAll
-        (AddsFrame (hrp_bytes asked.now.hrp.now) asked.now.slips asked.now.errors)
+        (AddsFrame (hrp_bytes asked.now.hrp.now) asked.now.slips errors)
+        (map (λ s. (string_bytes s.text, s.slips)) found.old.items)
+        (map (with_first frame.now) characters.now)
+        (map (λ s. (string_bytes s.text, s.slips)) found.new.items)) }
+{
+    for i in 0..characters.len() {
+        let one = with_first_unread(frame, characters[i]);
+        push_frame(alloc, front, one.as_slice(), errors, asked, found)?;
+    }
+    Ok(())
+}
+
+// Adds what a frame finds: by the checksums, or, where four characters cannot be read, with each
+// character of the alphabet for the first of them.
+fn push_filled<A: Allocator + Copy>(
+    alloc: &A,
+    front: &[u8],
+    frame: &[u8],
+    errors: usize,
+    asked: &Asked<'_>,
+    found: &mut Vec<Meant<String<A>>, A>,
+) -> Result<(), AllocError>
+    requires short { length frame.now ≤ 62 }
+    requires front { front.now ≡ front_for (hrp_bytes asked.now.hrp.now) }
+    ensures { OnOk result (AddsAll
+        (AddsFrame (hrp_bytes asked.now.hrp.now) asked.now.slips errors)
         (map (λ s. (string_bytes s.text, s.slips)) found.old.items) (filled frame.now)
         (map (λ s. (string_bytes s.text, s.slips)) found.new.items)) }
 {
-    if count_unread(frame) != 4 {
-        push_frame(alloc, front, frame, asked, found)?;
+    if count_unread(frame) == 4 {
+        push_with_each(alloc, front, frame, &ALPHABET, errors, asked, found)?;
         return Ok(());
     }
-    for c in &ALPHABET {
-        let one = with_first_unread(frame, *c);
-        push_frame(alloc, front, one.as_slice(), asked, found)?;
-    }
+    push_frame(alloc, front, frame, errors, asked, found)?;
     Ok(())
 }
 
@@ -63,17 +86,18 @@ fn push_frames<A: Allocator + Copy>(
     alloc: &A,
     front: &[u8],
     frames: &[Frame],
+    errors: usize,
     asked: &Asked<'_>,
     found: &mut Vec<Meant<String<A>>, A>,
 ) -> Result<(), AllocError>
     requires { front.now ≡ front_for (hrp_bytes asked.now.hrp.now) }
     ensures { OnOk result (AddsAll (AddsTry (hrp_bytes asked.now.hrp.now) asked.now.slips)
         (map (λ s. (string_bytes s.text, s.slips)) found.old.items)
-        (map (with_errors asked.now.errors) (map (λ f. f.items) frames.now))
+        (map (with_errors errors) (map (λ f. f.items) frames.now))
         (map (λ s. (string_bytes s.text, s.slips)) found.new.items)) }
 {
     for frame in frames {
-        push_filled(alloc, front, frame.as_slice(), asked, found)?;
+        push_filled(alloc, front, frame.as_slice(), errors, asked, found)?;
     }
     Ok(())
 }
@@ -98,22 +122,9 @@ fn push_reading<A: Allocator + Copy>(
     for made in 0..left + 1 {
         let before = add_next(part, made, &mut frames)?;
         let new = since(frames.as_slice(), before);
-        let one = with_so_many(asked, left - made);
-        push_frames(alloc, front, new, &one, found)?;
+        push_frames(alloc, front, new, left - made, asked, found)?;
     }
     Ok(())
-}
-
-// The same question with so many errors.
-fn with_so_many<'a>(asked: &Asked<'a>, errors: usize) -> Asked<'a>
-    ensures { (result.hrp ≡ asked.now.hrp)
-        × ((result.slips ≡ asked.now.slips) × (result.errors ≡ errors)) }
-{
-    Asked {
-        hrp: asked.hrp,
-        slips: asked.slips,
-        errors,
-    }
 }
 
 // Adds what is found for the first readings of a data part as it looks.

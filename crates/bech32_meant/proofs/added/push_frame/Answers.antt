@@ -20,7 +20,7 @@ returns g c =
     let after : List Answer = map (λ s. (string_bytes s.text, s.slips)) c.push_by_both.new.found.items in
     inl (
       subst HasChecksum text c.in-Some.ensures.0,
-      subst (λ (t : List ℕ). AddsByBoth (hrp_bytes asked.hrp.now) asked.slips asked.errors t (unread_locations c.args.frame.now) before after) (c.in-Some.ensures.1.0 ∙ text)
-      (subst (λ (u : List ℕ). AddsByBoth (hrp_bytes asked.hrp.now) asked.slips asked.errors c.in-Some.reading.text.now u before after) (c.as_slice-2.ensures.value ∙ c.in_ok-unread.ensures)
+      subst (λ (t : List ℕ). AddsByBoth (hrp_bytes asked.hrp.now) asked.slips c.args.errors t (unread_locations c.args.frame.now) before after) (c.in-Some.ensures.1.0 ∙ text)
+      (subst (λ (u : List ℕ). AddsByBoth (hrp_bytes asked.hrp.now) asked.slips c.args.errors c.in-Some.reading.text.now u before after) (c.as_slice-2.ensures.value ∙ c.in_ok-unread.ensures)
       c.in_ok-push_by_both.ensures),
     )

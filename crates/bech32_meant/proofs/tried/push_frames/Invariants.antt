@@ -8,5 +8,5 @@ use Rattle.bech32_meant.proofs.tried.push_frames.Given as goal
 abbrev pub invariant-loop-frame : goal.invariant-loop-frame
 invariant-loop-frame g l =
     AddsAll (AddsTry (hrp_bytes l.asked.hrp.now) l.asked.slips) (map (λ s. (string_bytes s.text, s.slips)) l.initial.found.items)
-    (map (with_errors l.asked.errors) (map (λ f. f.items) (take l.frame-index l.frames)))
+    (map (with_errors l.errors) (map (λ f. f.items) (take l.frame-index l.frames)))
     (map (λ s. (string_bytes s.text, s.slips)) l.found.items)
