@@ -5,6 +5,7 @@
 #![tactic(auto)]
 
 mod added;
+mod meant;
 mod tried;
 
 pub use self::added::Meant;

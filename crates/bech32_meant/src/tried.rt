@@ -199,3 +199,55 @@ fn push_unread<A: Allocator + Copy>(
     push_reading(alloc, front, read.as_slice(), left, asked, found)?;
     Ok(())
 }
+
+// Adds what is found for a front, with so many slips in all.
+fn push_front<A: Allocator + Copy>(
+    alloc: &A,
+    pass: Pass,
+    right: &[u8],
+    text: &[u8],
+    front: Front,
+    asked: &Asked<'_>,
+    found: &mut Vec<Meant<String<A>>, A>,
+) -> Result<(), AllocError>
+    requires few { asked.now.slips ≤ 2 }
+    requires right { right.now ≡ front_for (hrp_bytes asked.now.hrp.now) }
+    ensures { OnOk result (AddsAll (AddsTry (hrp_bytes asked.now.hrp.now) asked.now.slips)
+        (map (λ s. (string_bytes s.text, s.slips)) found.old.items)
+        (tries_of_front pass text.now asked.now.slips front)
+        (map (λ s. (string_bytes s.text, s.slips)) found.new.items)) }
+{
+    if front.slips > asked.slips {
+        return Ok(());
+    }
+    let (part, left) = (after(text, front.size), asked.slips - front.slips);
+    match pass {
+        Pass::AsItLooks => push_looks(alloc, right, part, left, asked, found)?,
+        Pass::Unread => push_unread(alloc, right, part, left, asked, found)?,
+    }
+    Ok(())
+}
+
+// Adds what is found with so many slips.
+pub(crate) fn push_level<A: Allocator + Copy>(
+    alloc: &A,
+    pass: Pass,
+    right: &[u8],
+    text: &[u8],
+    fronts: &[Front],
+    asked: &Asked<'_>,
+    found: &mut Vec<Meant<String<A>>, A>,
+) -> Result<(), AllocError>
+    requires few { asked.now.slips ≤ 2 }
+    requires right { right.now ≡ front_for (hrp_bytes asked.now.hrp.now) }
+    ensures { OnOk result (AddsAll (AddsTry (hrp_bytes asked.now.hrp.now) asked.now.slips)
+        (map (λ s. (string_bytes s.text, s.slips)) found.old.items)
+        (level pass text.now fronts.now asked.now.slips)
+        (map (λ s. (string_bytes s.text, s.slips)) found.new.items)) }
+{
+    for i in 0..fronts.len() {
+        let front = front_at(fronts, i);
+        push_front(alloc, pass, right, text, front, asked, found)?;
+    }
+    Ok(())
+}
