@@ -1,6 +1,5 @@
 -- Which addresses someone may have meant who typed a text.
-use Rattle.std.specs.Prelude.{◌≡◌, ◌<◌, ◌≤◌, ◌⊎◌, ◌++◌, ◌==◌, ℕ, List, [], ◌∷◌, length, map, drop, if◌then◌else◌, nat_lt}
-use Rattle.std.specs.List.{filter}
+use Rattle.std.specs.Prelude.{◌≡◌, ◌<◌, ◌≤◌, ◌⊎◌, ◌++◌, ◌==◌, ℕ, List, [], ◌∷◌, length, drop, if◌then◌else◌, nat_lt}
 use Rattle.bech32_suggest.specs.Suggestions.{IsAddressUnder}
 use Rattle.bech32_typed.specs.Cleaned.{cleaned}
 use Rattle.bech32_typed.specs.Fronts.{fronts}
@@ -10,10 +9,11 @@ use Rattle.bech32_typed.specs.declared.tries.Pass.{Pass}
 use Rattle.bech32_typed.specs.declared.tries.Pass.TheVariants.{AsItLooks, Unread}
 use Rattle.bech32_meant.specs.Added.{AddsAll, AddsIf, AddsTry, Answer, front_for}
 
--- the typed text itself, where it begins with the right front
+-- the typed text itself, where it begins with the right front: then that is its first one
 abbrev pub itself : List ℕ → List ℕ → List Front → List (List ℕ)
-itself right text fs =
-    map (λ front. right ++ drop front.size text) (filter (λ front. front.slips == 0) fs)
+itself right text [] = []
+itself right text (front ∷ more) =
+    if front.slips == 0 then (right ++ drop front.size text) ∷ [] else []
 
 -- what is tried with so many slips, where that level is
 abbrev pub tried : Pass → List ℕ → List Front → ℕ → List Try

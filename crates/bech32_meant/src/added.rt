@@ -265,3 +265,43 @@ pub(crate) fn push_frame<A: Allocator + Copy>(
     push_by_both(alloc, &reading, unread.as_slice(), errors, asked, found)?;
     Ok(())
 }
+
+// Adds a text with no slip, if it is an address of the part and not among those that are found.
+fn push_own<A: Allocator + Copy>(
+    alloc: A,
+    hrp: &Hrp,
+    text: &str,
+    found: &mut Vec<Meant<String<A>>, A>,
+) -> Result<(), AllocError>
+    ensures { OnOk result (AddsIf (IsAddressUnder (hrp_bytes hrp.now)) 0
+        (map (λ s. (string_bytes s.text, s.slips)) found.old.items) text.now
+        (map (λ s. (string_bytes s.text, s.slips)) found.new.items)) }
+{
+    if is_found(text, found.as_slice()) {
+        return Ok(());
+    }
+    if !is_address_under(text, hrp) {
+        return Ok(());
+    }
+    let text = String::from_str(alloc, text)?;
+    found.push(Meant { text, slips: 0 })?;
+    Ok(())
+}
+
+// Adds the text of bytes so.
+pub(crate) fn push_address<A: Allocator + Copy>(
+    alloc: A,
+    hrp: &Hrp,
+    bytes: &[u8],
+    found: &mut Vec<Meant<String<A>>, A>,
+) -> Result<(), AllocError>
+    ensures { OnOk result (AddsIf (IsAddressUnder (hrp_bytes hrp.now)) 0
+        (map (λ s. (string_bytes s.text, s.slips)) found.old.items) bytes.now
+        (map (λ s. (string_bytes s.text, s.slips)) found.new.items)) }
+{
+    let Ok(text) = str::from_utf8(bytes) else {
+        return Ok(());
+    };
+    push_own(alloc, hrp, text, found)?;
+    Ok(())
+}

@@ -5,7 +5,9 @@
 #![tactic(auto)]
 
 mod added;
-mod meant;
+
+mod search;
 mod tried;
 
 pub use self::added::Meant;
+pub use self::search::{MAX_TYPED_BYTES, meant};
