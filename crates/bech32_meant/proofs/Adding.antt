@@ -1,5 +1,5 @@
 -- Which texts are added to those that are found.
-use Rattle.std.proofs.Common.{◌≡◌, ◌⊎◌, ◌∙◌, ◌+◌, ◌<◌, ◌≤◌, ℕ, List, [], ◌∷◌, ◌++◌, append-nil, get_or, length, map, map-id, take, inl, inr, refl, sym, ap, subst, arith}
+use Rattle.std.proofs.Common.{◌≡◌, ◌∙◌, ◌+◌, ◌<◌, ◌≤◌, ℕ, List, [], ◌∷◌, ◌++◌, append-nil, get_or, length, map, map-id, take, inl, inr, refl, sym, ap, subst, arith}
 use Rattle.std.specs.List.{flat_map, range_with_len}
 use Rattle.std.proofs.lemmas.List.{map_more, map-append, take_all, take_more}
 use Rattle.std.proofs.lemmas.List.Concat.{flat_map-append}
@@ -78,7 +78,7 @@ module _ {X Y : Type 0} (Adds : List Answer → Y → List Answer → Type 0) (f
       → AddsAll Adds middle (f (get_or xs i d)) after → AddsAll Adds before (flat_map f (take (i + 1) xs)) after
   adds-next_item xs i d inside so_far one =
       let parts : flat_map f (take (i + 1) xs) ≡ flat_map f (take i xs) ++ f (get_or xs i d) =
-          ap (flat_map f) (take_more xs i d inside) ∙ flat_map-append f (take i xs) (get_or xs i d ∷ []) ∙ ap (λ ts. flat_map f (take i xs) ++ ts) (append-nil (f (get_or xs i d))) in
+      ap (flat_map f) (take_more xs i d inside) ∙ flat_map-append f (take i xs) (get_or xs i d ∷ []) ∙ ap (λ ts. flat_map f (take i xs) ++ ts) (append-nil (f (get_or xs i d))) in
       subst (λ (ts : List Y). AddsAll Adds before ts after) (sym parts) (adds-append Adds before middle after (flat_map f (take i xs)) (f (get_or xs i d)) so_far one)
 
 module _ {Y : Type 0} (Adds : List Answer → Y → List Answer → Type 0) (f : ℕ → List Y) (before middle after : List Answer) (i : ℕ) where
@@ -86,9 +86,9 @@ module _ {Y : Type 0} (Adds : List Answer → Y → List Answer → Type 0) (f :
       → AddsAll Adds before (flat_map f (range_with_len 0 (i + 1))) after
   adds-next_number so_far one =
       let last : range_with_len 0 (i + 1) ≡ range_with_len 0 i ++ i ∷ [] =
-          sym (map-id (range_with_len 0 (i + 1))) ∙ map-range_with_len_more (λ k. k) 0 i i (omega arith) ∙ ap (λ l. l ++ i ∷ []) (map-id (range_with_len 0 i)) in
+      sym (map-id (range_with_len 0 (i + 1))) ∙ map-range_with_len_more (λ k. k) 0 i i (omega arith) ∙ ap (λ l. l ++ i ∷ []) (map-id (range_with_len 0 i)) in
       let parts : flat_map f (range_with_len 0 (i + 1)) ≡ flat_map f (range_with_len 0 i) ++ f i =
-          ap (flat_map f) last ∙ flat_map-append f (range_with_len 0 i) (i ∷ []) ∙ ap (λ ts. flat_map f (range_with_len 0 i) ++ ts) (append-nil (f i)) in
+      ap (flat_map f) last ∙ flat_map-append f (range_with_len 0 i) (i ∷ []) ∙ ap (λ ts. flat_map f (range_with_len 0 i) ++ ts) (append-nil (f i)) in
       subst (λ (ts : List Y). AddsAll Adds before ts after) (sym parts) (adds-append Adds before middle after (flat_map f (range_with_len 0 i)) (f i) so_far one)
 
 module _ {X Y Z : Type 0} (Adds : List Answer → Z → List Answer → Type 0) (g : Y → Z) (f : X → Y) (before middle after : List Answer) where
@@ -97,5 +97,5 @@ module _ {X Y Z : Type 0} (Adds : List Answer → Z → List Answer → Type 0) 
       → Adds middle (g (f (get_or xs i d))) after → AddsAll Adds before (map g (map f (take (i + 1) xs))) after
   adds-next_made xs i d inside so_far one =
       let parts : map g (map f (take (i + 1) xs)) ≡ map g (map f (take i xs)) ++ g (f (get_or xs i d)) ∷ [] =
-          ap (map g) (map_more f xs i d inside) ∙ map-append g (map f (take i xs)) (f (get_or xs i d) ∷ []) in
+      ap (map g) (map_more f xs i d inside) ∙ map-append g (map f (take i xs)) (f (get_or xs i d) ∷ []) in
       subst (λ (ts : List Z). AddsAll Adds before ts after) (sym parts) (adds-more Adds before middle after (map g (map f (take i xs))) (g (f (get_or xs i d))) so_far one)

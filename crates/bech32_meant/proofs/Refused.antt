@@ -1,5 +1,5 @@
 -- Bytes that are refused are in no grammar.
-use Rattle.std.proofs.Common.{◌≡◌, ℕ, List, Some}
+use Rattle.std.proofs.Common.{ℕ, List}
 use Rattle.std.specs.Str.{IsUtf8}
 use Rattle.std.proofs.lemmas.Str.{IsUtf8-from_ascii}
 use Rattle.bech32_correction.proofs.Ascii.{ascii_text}

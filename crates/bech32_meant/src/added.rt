@@ -15,8 +15,8 @@ use bech32_correction::Mended;
 use bech32_decode::{Reading, SegwitHrpstring};
 use bech32_hrp::Hrp;
 use bech32_near::nearest_to_reading;
-use bech32_suggest::AsText;
 use bech32_refusals::segwit::{KEY_HASH_LENGTH, SCRIPT_HASH_LENGTH};
+use bech32_suggest::AsText;
 use std::alloc::{AllocError, Allocator};
 
 /// An address that someone may have meant.

@@ -5,7 +5,6 @@
 #![tactic(auto)]
 
 mod added;
-
 mod search;
 mod tried;
 

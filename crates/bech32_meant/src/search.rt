@@ -70,8 +70,26 @@ fn push_slips<A: Allocator + Copy>(
         (map (λ s. (string_bytes s.text, s.slips)) found.old.items) asked.now.slips
         (map (λ s. (string_bytes s.text, s.slips)) found.new.items)) }
 {
-    push_tried(alloc, Pass::AsItLooks, levels.0, right, text, fronts, asked, found)?;
-    push_tried(alloc, Pass::Unread, levels.1, right, text, fronts, asked, found)?;
+    push_tried(
+        alloc,
+        Pass::AsItLooks,
+        levels.0,
+        right,
+        text,
+        fronts,
+        asked,
+        found,
+    )?;
+    push_tried(
+        alloc,
+        Pass::Unread,
+        levels.1,
+        right,
+        text,
+        fronts,
+        asked,
+        found,
+    )?;
     Ok(())
 }
 
@@ -132,9 +150,33 @@ fn push_found<A: Allocator + Copy>(
 {
     push_itself(*alloc, hrp, right, text, fronts, found)?;
     let levels = levels_tried(*alloc, text, fronts)?;
-    push_slips(alloc, levels, right, text, fronts, &Asked { hrp, slips: 0 }, found)?;
-    push_slips(alloc, levels, right, text, fronts, &Asked { hrp, slips: 1 }, found)?;
-    push_slips(alloc, levels, right, text, fronts, &Asked { hrp, slips: 2 }, found)?;
+    push_slips(
+        alloc,
+        levels,
+        right,
+        text,
+        fronts,
+        &Asked { hrp, slips: 0 },
+        found,
+    )?;
+    push_slips(
+        alloc,
+        levels,
+        right,
+        text,
+        fronts,
+        &Asked { hrp, slips: 1 },
+        found,
+    )?;
+    push_slips(
+        alloc,
+        levels,
+        right,
+        text,
+        fronts,
+        &Asked { hrp, slips: 2 },
+        found,
+    )?;
     Ok(())
 }
 
@@ -173,6 +215,13 @@ pub fn meant<A: Allocator + Copy>(
     let text = clean(alloc, typed)?;
     let right = front_of_part(alloc, hrp)?;
     let fronts = fronts_of(alloc, right.as_bytes(), text.as_slice())?;
-    push_found(&alloc, hrp, right.as_bytes(), text.as_slice(), fronts.as_slice(), &mut found)?;
+    push_found(
+        &alloc,
+        hrp,
+        right.as_bytes(),
+        text.as_slice(),
+        fronts.as_slice(),
+        &mut found,
+    )?;
     Ok(found)
 }

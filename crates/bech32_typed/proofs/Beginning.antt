@@ -20,8 +20,8 @@ pub begins-more : (with text : List ℕ) (i : ℕ) → i < length with → begin
 begins-more with text i inside h =
     let more : suc i ≡ i + 1 = omega arith in
     sym (
-      ap (λ ws. begins_lower ws (drop i text)) (drop-cons with i 0 inside)
-      ∙ begins-cons (get_or with i 0) (drop (suc i) with) (drop i text)
-      ∙ ap (λ b. b && begins_lower (drop (suc i) with) (drop 1 (drop i text))) h
-      ∙ ap (begins_lower (drop (suc i) with)) (drop-drop 1 i text)
-      ∙ ap (λ k. begins_lower (drop k with) (drop (i + 1) text)) more)
+    ap (λ ws. begins_lower ws (drop i text)) (drop-cons with i 0 inside)
+    ∙ begins-cons (get_or with i 0) (drop (suc i) with) (drop i text)
+    ∙ ap (λ b. b && begins_lower (drop (suc i) with) (drop 1 (drop i text))) h
+    ∙ ap (begins_lower (drop (suc i) with)) (drop-drop 1 i text)
+    ∙ ap (λ k. begins_lower (drop k with) (drop (i + 1) text)) more)

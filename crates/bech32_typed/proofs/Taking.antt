@@ -1,5 +1,5 @@
 -- What is left of a budget, try after try.
-use Rattle.std.proofs.Common.{◌≡◌, ◌<◌, ◌≤◌, ◌∙◌, ◌+◌, ◌-◌, ◌&&◌, ◌⊎◌, ℕ, Bool, true, false, List, [], ◌∷◌, ◌++◌, Option, None, Some, length, append-nil, drop, get_or, map-id, take, suc, inl, inr, refl, sym, ap, subst, le-leb, leb-true, arith}
+use Rattle.std.proofs.Common.{◌≡◌, ◌<◌, ◌≤◌, ◌∙◌, ◌+◌, ◌-◌, ◌&&◌, ℕ, Bool, true, false, List, [], ◌∷◌, ◌++◌, Option, None, Some, length, append-nil, drop, get_or, map-id, take, suc, inl, inr, refl, sym, ap, subst, le-leb, leb-true, arith}
 use Rattle.std.specs.Prelude.{nat_le}
 use Rattle.std.specs.List.{flat_map, range_with_len, sum_by}
 use Rattle.std.proofs.Math.Seq.{drop-cons}
@@ -40,7 +40,7 @@ module _ {X : Type 0} (f : X → List Try) (budget middle : Budget) where
       → IsTaken middle (f (get_or xs i d)) (Some rest) → IsTaken budget (flat_map f (take (i + 1) xs)) (Some rest)
   taken-more xs i d rest inside before here =
       let tries : flat_map f (take (i + 1) xs) ≡ flat_map f (take i xs) ++ f (get_or xs i d) =
-          ap (flat_map f) (take_more xs i d inside) ∙ flat_map-append f (take i xs) (get_or xs i d ∷ []) ∙ ap (λ ts. flat_map f (take i xs) ++ ts) (append-nil (f (get_or xs i d))) in
+      ap (flat_map f) (take_more xs i d inside) ∙ flat_map-append f (take i xs) (get_or xs i d ∷ []) ∙ ap (λ ts. flat_map f (take i xs) ++ ts) (append-nil (f (get_or xs i d))) in
       subst (λ (ts : List Try). IsTaken budget ts (Some rest)) (sym tries) (taken-append budget middle (flat_map f (take i xs)) (f (get_or xs i d)) before (Some rest) here)
 
   -- an item for which it is not enough
@@ -49,7 +49,7 @@ module _ {X : Type 0} (f : X → List Try) (budget middle : Budget) where
   taken-stop xs i d inside before here =
       let behind : List Try = flat_map f (drop (suc i) xs) in
       let tries : flat_map f xs ≡ flat_map f (take i xs) ++ (f (get_or xs i d) ++ behind) =
-          ap (flat_map f) (sym (take-append-drop i xs)) ∙ flat_map-append f (take i xs) (drop i xs) ∙ ap (λ ys. flat_map f (take i xs) ++ flat_map f ys) (drop-cons xs i d inside) in
+      ap (flat_map f) (sym (take-append-drop i xs)) ∙ flat_map-append f (take i xs) (drop i xs) ∙ ap (λ ys. flat_map f (take i xs) ++ flat_map f ys) (drop-cons xs i d inside) in
       subst (λ (ts : List Try). IsTaken budget ts None) (sym tries)
       (taken-append budget middle (flat_map f (take i xs)) (f (get_or xs i d) ++ behind) before None (taken-fewer middle (f (get_or xs i d)) behind here))
 

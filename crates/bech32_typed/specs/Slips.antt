@@ -1,6 +1,6 @@
 -- What one slip makes of a typed text: one wrong, two swapped, one too many, one missing.
-use Rattle.std.specs.Prelude.{◌+◌, ◌-◌, ◌==◌, ℕ, suc, if◌then◌else◌}
-use Rattle.std.specs.Prelude.{List, [], ◌∷◌, ◌++◌, length, map, take, drop, get_or}
+use Rattle.std.specs.Prelude.{◌+◌, ◌-◌, ℕ}
+use Rattle.std.specs.Prelude.{List, ◌∷◌, ◌++◌, length, map, take, drop, get_or}
 use Rattle.std.specs.List.{range_with_len}
 use Rattle.bech32_typed.specs.declared.slips.Slip.{Slip}
 use Rattle.bech32_typed.specs.declared.slips.Slip.TheVariants.{Missing, Swapped, TooMany, Wrong}

@@ -13,7 +13,11 @@ use std::alloc::{AllocError, Allocator};
 fn narrow(c: u32) -> u32
     ensures { result ≡ narrowed c }
 {
-    if c >= 0xFF01 && c <= 0xFF5E { c - 0xFEE0 } else { c }
+    if c >= 0xFF01 && c <= 0xFF5E {
+        c - 0xFEE0
+    } else {
+        c
+    }
 }
 
 // A character in lower case, if it is one of ASCII.
@@ -27,7 +31,11 @@ fn lower(c: u32) -> u32
 fn plain_of(c: u32) -> u8
     ensures { result ≡ plain c }
 {
-    if (c >= 97 && c <= 122) || (c >= 48 && c <= 57) { c as u8 } else { b'?' }
+    if (c >= 97 && c <= 122) || (c >= 48 && c <= 57) {
+        c as u8
+    } else {
+        b'?'
+    }
 }
 
 // What a character is read as, if anything.

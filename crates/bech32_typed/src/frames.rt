@@ -17,6 +17,7 @@ const SLIPS: [Slip; 3] = [Slip::Swapped, Slip::TooMany, Slip::Missing];
 
 // The lengths of the data parts of addresses in use.
 const SHORT: usize = 39;
+
 const LONG: usize = 59;
 
 // The most characters of a frame that cannot be read.
@@ -293,10 +294,7 @@ pub fn add_frames<A: Allocator + Copy>(
 }
 
 // Adds the text itself, if it is a frame.
-fn add_itself<A: Allocator + Copy>(
-    text: &[u8],
-    frames: &mut Frames<A>,
-) -> Result<(), AllocError>
+fn add_itself<A: Allocator + Copy>(text: &[u8], frames: &mut Frames<A>) -> Result<(), AllocError>
     ensures { OnOk result (map (λ f. f.items) frames.new.keys
         ≡ with_frames (map (λ f. f.items) frames.old.keys) (text.now ∷ [])) }
 {

@@ -1,4 +1,4 @@
-use Rattle.std.proofs.Common.{◌≡◌, ◌≤◌, ◌<◌, ◌∙◌, ℕ, List, length, ap, arith, subst}
+use Rattle.std.proofs.Common.{◌≡◌, ◌∙◌, ℕ, List, length, ap, arith, subst}
 use Rattle.bech32_decode.specs.Text.{IsText}
 use Rattle.bech32_decode.proofs.Grammar.{only-from_IsText}
 use Rattle.bech32_meant.proofs.Refused.{fault_not_in_grammar}
@@ -16,8 +16,7 @@ returns-then-reading-lt6 c = λ h.
 
 pub returns : goal.returns
 returns c =
-    let r = c.in-Ok.reading in
-    (
+    let r = c.in-Ok.reading in (
       record {
         short = c.if-text-gt1023.false;
         hrp = r.hrp.now;

@@ -1,7 +1,5 @@
-use Rattle.std.proofs.Common.{ap, subst, ◌∙◌, sym, get_or, List, ℕ, map}
-use Rattle.std.specs.Prelude.{string_bytes}
 use Rattle.bech32_hrp.specs.HrpBytes.{hrp_bytes}
-use Rattle.bech32_meant.specs.Added.{AddsIf, Answer, IsWanted}
+use Rattle.bech32_meant.specs.Added.{AddsIf, IsWanted}
 use Rattle.bech32_meant.proofs.Adding.{all_of, more_of}
 use Rattle.bech32_meant.proofs.added.push_each.Goals as goal
 

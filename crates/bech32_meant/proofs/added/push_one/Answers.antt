@@ -1,7 +1,7 @@
 use Rattle.std.specs.Prelude.{string_bytes}
 use Rattle.std.proofs.Common.{◌≡◌, true, false, sym, ◌∙◌, ap}
 use Rattle.bech32_hrp.specs.HrpBytes.{hrp_bytes}
-use Rattle.bech32_meant.specs.Added.{Answer, IsWanted}
+use Rattle.bech32_meant.specs.Added.{IsWanted}
 use Rattle.bech32_meant.proofs.Adding.{added_told, failed_told, passed_told}
 use Rattle.bech32_meant.proofs.added.push_one.Goals as goal
 

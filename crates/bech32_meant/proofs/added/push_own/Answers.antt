@@ -2,7 +2,6 @@ use Rattle.std.specs.Prelude.{string_bytes}
 use Rattle.std.proofs.Common.{◌≡◌, true, false, sym, ◌∙◌, ap}
 use Rattle.bech32_hrp.specs.HrpBytes.{hrp_bytes}
 use Rattle.bech32_suggest.specs.Suggestions.{IsAddressUnder}
-use Rattle.bech32_meant.specs.Added.{Answer}
 use Rattle.bech32_meant.proofs.Adding.{added_told, failed_told, passed_told}
 use Rattle.bech32_meant.proofs.added.push_own.Goals as goal
 

@@ -1,5 +1,5 @@
 use Rattle.std.specs.Prelude.{string_bytes}
-use Rattle.std.proofs.Common.{ℕ, [], List, ap, map, refl, subst}
+use Rattle.std.proofs.Common.{ℕ, List, ap, map, refl, subst}
 use Rattle.bech32_hrp.specs.HrpBytes.{hrp_bytes}
 use Rattle.bech32_suggest.specs.Suggestions.{IsAddressUnder}
 use Rattle.bech32_meant.specs.Added.{AddsAll, AddsIf, Answer}

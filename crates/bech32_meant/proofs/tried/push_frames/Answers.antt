@@ -1,7 +1,7 @@
 use Rattle.std.proofs.Common.{◌∙◌, ℕ, List, ap, map, subst}
 use Rattle.std.specs.Prelude.{string_bytes}
 use Rattle.bech32_hrp.specs.HrpBytes.{hrp_bytes}
-use Rattle.bech32_typed.specs.Tries.{Try, with_errors}
+use Rattle.bech32_typed.specs.Tries.{with_errors}
 use Rattle.bech32_meant.specs.Added.{AddsTry, Answer}
 use Rattle.bech32_meant.proofs.Adding.{adds-next_made}
 use Rattle.bech32_meant.proofs.tried.push_frames.Goals as goal

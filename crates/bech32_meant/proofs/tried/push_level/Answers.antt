@@ -2,7 +2,7 @@ use Rattle.std.proofs.Common.{List, map, subst}
 use Rattle.std.specs.Prelude.{string_bytes}
 use Rattle.bech32_hrp.specs.HrpBytes.{hrp_bytes}
 use Rattle.bech32_typed.specs.Fronts.{front_of}
-use Rattle.bech32_typed.specs.Tries.{Try, tries_of_front}
+use Rattle.bech32_typed.specs.Tries.{tries_of_front}
 use Rattle.bech32_typed.specs.declared.fronts.Front.{Front}
 use Rattle.bech32_meant.specs.Added.{AddsAll, AddsTry, Answer}
 use Rattle.bech32_meant.proofs.Adding.{adds-next_item}

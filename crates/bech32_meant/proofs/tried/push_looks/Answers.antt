@@ -19,7 +19,7 @@ returns g c =
     let after : List Answer = map (λ s. (string_bytes s.text, s.slips)) c.push_readings.new.found.items in
     let few : twos part ≤ 10 = omega (arith, c.if-twos-gt-MAX_TWOS.false, c.count_twos-twos.ensures) in
     let all : flat_map tries (readings_of AsItLooks part) ≡ flat_map (tries_of_numbered c.args.left part) (range_with_len 0 c.ways_to_read.result) =
-        ap (λ b. flat_map tries (if b then readings part else [])) (le-leb (twos part) 10 few)
-        ∙ flat_map-map tries (reading_at part) (range_with_len 0 (2 ^ twos part))
-        ∙ ap (λ n. flat_map (tries_of_numbered c.args.left part) (range_with_len 0 n)) (sym (c.ways_to_read.ensures ∙ ap (λ t. 2 ^ t) c.count_twos-twos.ensures)) in
+    ap (λ b. flat_map tries (if b then readings part else [])) (le-leb (twos part) 10 few)
+    ∙ flat_map-map tries (reading_at part) (range_with_len 0 (2 ^ twos part))
+    ∙ ap (λ n. flat_map (tries_of_numbered c.args.left part) (range_with_len 0 n)) (sym (c.ways_to_read.ensures ∙ ap (λ t. 2 ^ t) c.count_twos-twos.ensures)) in
     subst (λ (ts : List Try). AddsAll Adds before ts after) (sym all) c.in_ok-push_readings.ensures

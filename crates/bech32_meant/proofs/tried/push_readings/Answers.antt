@@ -1,7 +1,7 @@
 use Rattle.std.proofs.Common.{◌∙◌, ℕ, List, map, subst}
 use Rattle.std.specs.Prelude.{string_bytes}
 use Rattle.bech32_hrp.specs.HrpBytes.{hrp_bytes}
-use Rattle.bech32_typed.specs.Tries.{Try, tries_of_numbered, tries_of_reading}
+use Rattle.bech32_typed.specs.Tries.{tries_of_numbered, tries_of_reading}
 use Rattle.bech32_meant.specs.Added.{AddsAll, AddsTry, Answer}
 use Rattle.bech32_meant.proofs.Adding.{adds-next_number}
 use Rattle.bech32_meant.proofs.tried.push_readings.Goals as goal

@@ -1,4 +1,4 @@
-use Rattle.std.proofs.Common.{◌∙◌, ℕ, List, get_or, map, subst}
+use Rattle.std.proofs.Common.{◌∙◌, ℕ, List, map, subst}
 use Rattle.std.specs.Prelude.{string_bytes}
 use Rattle.bech32_hrp.specs.HrpBytes.{hrp_bytes}
 use Rattle.bech32_meant.specs.Added.{AddsFrame, Answer, with_first}

@@ -1,4 +1,4 @@
-use Rattle.std.proofs.Common.{◌∙◌, rules}
+use Rattle.std.proofs.Common.{rules}
 use Rattle.bech32_typed.proofs.Beginning.{begins-more}
 use Rattle.bech32_typed.proofs.cleaning.begins.Goals as goal
 

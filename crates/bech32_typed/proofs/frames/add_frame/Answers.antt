@@ -1,6 +1,6 @@
-use Rattle.std.proofs.Common.{rules, ◌≡◌, ◌∙◌, ◌&&◌, sym, ap, map, true, false, length, nat_le, le-leb, arith}
-use Rattle.bech32_typed.specs.Frames.{is_frame, is_size, unread_in, with_text}
-use Rattle.bech32_typed.proofs.Adding.{adds, inserted, skips}
+use Rattle.std.proofs.Common.{rules, ◌≡◌, ◌∙◌, sym, ap, map, true}
+use Rattle.bech32_typed.specs.Frames.{is_frame}
+use Rattle.bech32_typed.proofs.Adding.{adds, inserted}
 use Rattle.bech32_typed.proofs.frames.add_frame.Goals as goal
 
 pub returns : goal.returns

@@ -1,6 +1,6 @@
 use Rattle.std.proofs.Common.{◌≡◌, ◌∙◌, ◌+◌, suc, ap, arith, drop, length, map, sym}
 use Rattle.std.proofs.lemmas.List.{drop-map, length-map}
-use Rattle.bech32_typed.specs.Frames.{frames_before, frames_by, made_by, with_frames}
+use Rattle.bech32_typed.specs.Frames.{frames_before, made_by, with_frames}
 use Rattle.bech32_typed.proofs.frames.add_next.Goals as goal
 
 pub returns-clause-all : goal.returns-clause-all

@@ -1,5 +1,4 @@
 use Rattle.std.proofs.Common.{◌∙◌, ◌∷◌, [], sym, ap, map}
-use Rattle.std.specs.List.{range_with_len}
 use Rattle.bech32_typed.specs.Frames.{with_frames}
 use Rattle.bech32_typed.specs.Slips.{after_slip}
 use Rattle.bech32_typed.proofs.Adding.{one_more}

@@ -1,7 +1,5 @@
 use Rattle.std.proofs.Common.{◌∙◌, ◌∷◌, [], sym, ap, map}
-use Rattle.std.specs.List.{range_with_len}
 use Rattle.bech32_typed.specs.Frames.{with_frames, with_three_unread_at}
-
 use Rattle.bech32_typed.proofs.Adding.{one_more}
 use Rattle.bech32_typed.proofs.frames.add_three_missing.Goals as goal
 

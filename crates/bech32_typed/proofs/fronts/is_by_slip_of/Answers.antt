@@ -1,6 +1,6 @@
 use Rattle.std.proofs.Common.{◌∙◌, arith, ap, sym}
 use Rattle.bech32_typed.specs.Fronts.{stands_for}
-use Rattle.bech32_typed.specs.Slips.{after_slip, places}
+use Rattle.bech32_typed.specs.Slips.{after_slip}
 use Rattle.bech32_typed.proofs.Any.{any_here, none_more}
 use Rattle.bech32_typed.proofs.fronts.is_by_slip_of.Goals as goal
 

@@ -1,5 +1,5 @@
-use Rattle.std.proofs.Common.{◌∙◌, ◌≡◌, ap, sym, false, rules, take, true}
-use Rattle.bech32_typed.specs.Fronts.{front_of, is_front_by, slips_of_front}
+use Rattle.std.proofs.Common.{◌∙◌, ◌≡◌, ap, false, rules, true}
+use Rattle.bech32_typed.specs.Fronts.{front_of, is_front_by}
 use Rattle.bech32_typed.proofs.Counted.{none_counted, one_counted}
 use Rattle.bech32_typed.proofs.fronts.push_fronts.Goals as goal
 use Rattle.bech32_typed.proofs.fronts.push_fronts.Goals.{then-slips_to-slips+in_ok-push, else-slips_to-slips}

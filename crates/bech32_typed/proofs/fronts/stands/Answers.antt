@@ -1,4 +1,4 @@
-use Rattle.std.proofs.Common.{◌∙◌, rules, sym, arith}
+use Rattle.std.proofs.Common.{rules, sym}
 use Rattle.bech32_typed.proofs.Standing.{of_other_length, stands-more, stands-not}
 use Rattle.bech32_typed.proofs.fronts.stands.Goals as goal
 

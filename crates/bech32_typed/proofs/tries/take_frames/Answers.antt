@@ -1,4 +1,4 @@
-use Rattle.std.proofs.Common.{rules, ◌≡◌, ◌++◌, ◌∷◌, ◌∙◌, ℕ, List, None, Option, ap, drop, get_or, map, subst, sym, take, [], ◌+◌}
+use Rattle.std.proofs.Common.{rules, ◌≡◌, ◌∷◌, ◌∙◌, List, None, Option, ap, drop, get_or, map, subst, sym, take, [], ◌+◌}
 use Rattle.bech32_typed.specs.Frames.{is_frame}
 use Rattle.bech32_typed.specs.Tries.{IsTaken, Try, texts_of, with_errors}
 use Rattle.bech32_typed.specs.declared.tries.Budget.{Budget}

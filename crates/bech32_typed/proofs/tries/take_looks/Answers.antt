@@ -14,7 +14,7 @@ returns g c =
     let tries = tries_of_reading slips in
     let few : twos part ≤ 10 = omega (arith, c.if-twos-gt-MAX_TWOS.false, c.count_twos-twos.ensures) in
     let all : flat_map tries (readings_of AsItLooks part) ≡ flat_map (tries_of_numbered slips part) (range_with_len 0 c.ways_to_read.result) =
-        ap (λ b. flat_map tries (if b then readings part else [])) (le-leb (twos part) 10 few)
-        ∙ flat_map-map tries (reading_at part) (range_with_len 0 (2 ^ twos part))
-        ∙ ap (λ n. flat_map (tries_of_numbered slips part) (range_with_len 0 n)) (sym (c.ways_to_read.ensures ∙ ap (λ t. 2 ^ t) c.count_twos-twos.ensures)) in
+    ap (λ b. flat_map tries (if b then readings part else [])) (le-leb (twos part) 10 few)
+    ∙ flat_map-map tries (reading_at part) (range_with_len 0 (2 ^ twos part))
+    ∙ ap (λ n. flat_map (tries_of_numbered slips part) (range_with_len 0 n)) (sym (c.ways_to_read.ensures ∙ ap (λ t. 2 ^ t) c.count_twos-twos.ensures)) in
     subst (λ (ts : List Try). IfOk c.take_readings.result (IsTaken c.args.left ts)) (sym all) c.take_readings.ensures

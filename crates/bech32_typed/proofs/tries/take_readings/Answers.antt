@@ -1,6 +1,6 @@
-use Rattle.std.proofs.Common.{◌≡◌, ◌∙◌, ℕ, List, None, Option, Some, ap, subst}
+use Rattle.std.proofs.Common.{◌≡◌, ◌∙◌, ℕ, List, None, Option, Some, subst}
 use Rattle.bech32_typed.specs.Readings.{reading_at}
-use Rattle.bech32_typed.specs.Tries.{IsTaken, Try, tries_of_numbered, tries_of_reading}
+use Rattle.bech32_typed.specs.Tries.{IsTaken, tries_of_numbered, tries_of_reading}
 use Rattle.bech32_typed.specs.declared.tries.Budget.{Budget}
 use Rattle.bech32_typed.proofs.Taking.{taken-end, taken-next}
 use Rattle.bech32_typed.proofs.tries.take_readings.Goals as goal
