@@ -1,12 +1,13 @@
 -- How answers are added to those that are found: addresses in use, each once.
-use Rattle.std.specs.Prelude.{◌≡◌, ◌≤◌, ◌⊎◌, ◌++◌, ◌==◌, ℕ, List, [], ◌∷◌, length, map, if◌then◌else◌}
+use Rattle.std.specs.Prelude.{◌≡◌, ◌≤◌, ◌⊎◌, ◌++◌, ◌==◌, ℕ, List, [], ◌∷◌}
+use Rattle.std.specs.Prelude.{length, map, if◌then◌else◌}
 use Rattle.bech32_gf.specs.Alphabet.{alphabet}
 use Rattle.bech32_gf.specs.declared.gf32.Fe32.{Fe32}
 use Rattle.bech32_poly.specs.Distinct.{IsAmong}
 use Rattle.bech32_hrp.specs.Hrp.{lowered}
 use Rattle.bech32_checksum.specs.Code.{Code, bech32, bech32m}
 use Rattle.bech32_decode.specs.Text.{IsText}
-use Rattle.bech32_near.specs.NearTexts.{AreNearTexts}
+use Rattle.bech32_near.specs.NearTexts.{AreNearTexts, IsNearText}
 use Rattle.bech32_suggest.specs.Forms.{IsAddressInUse}
 use Rattle.bech32_suggest.specs.Suggestions.{IsAddressUnder, near_bound}
 use Rattle.bech32_suggest.specs.Typed.{as_read, unread_locations}
@@ -77,7 +78,8 @@ abbrev pub with_first : List ℕ → ℕ → List ℕ
 with_first [] c = []
 with_first (x ∷ xs) c = if x == unread then c ∷ xs else x ∷ with_first xs c
 
--- the checksums find three characters that cannot be read: of four, the first is any of the alphabet
+-- the checksums find three characters that cannot be read: of four, the first may be any of the
+-- alphabet
 abbrev pub filled : List ℕ → List (List ℕ)
 filled frame = if unread_in frame == 4 then map (with_first frame) alphabet else frame ∷ []
 
@@ -85,3 +87,21 @@ filled frame = if unread_in frame == 4 then map (with_first frame) alphabet else
 abbrev pub AddsTry : List ℕ → ℕ → List Answer → Try → List Answer → Type 0
 AddsTry hrp slips before t after =
     AddsAll (AddsFrame hrp slips t.errors) before (filled t.frame) after
+
+-- ---- which addresses are near what is tried
+
+-- one of the checksums accepts the other text, which is near this one
+abbrev pub IsNearByEither : List ℕ → List ℕ → ℕ → List ℕ → Type 0
+IsNearByEither text given errors other =
+    IsNearText bech32 near_bound text given errors other
+    ⊎ IsNearText bech32m near_bound text given errors other
+
+-- the other text is near the frame after the part
+abbrev pub IsNearFrame : List ℕ → List ℕ → ℕ → List ℕ → Type 0
+IsNearFrame hrp frame errors other =
+    IsNearByEither (front_for hrp ++ as_read frame) (unread_locations frame) errors other
+
+-- it is near a frame that the try stands for
+abbrev pub IsNearTry : List ℕ → Try → List ℕ → Type 0
+IsNearTry hrp t other =
+    (frame : List ℕ) × IsAmong frame (filled t.frame) × IsNearFrame hrp frame t.errors other

@@ -3,7 +3,9 @@
 ghost use Rattle.std.specs.Prelude.{◌≡◌, ◌≤◌, ◌++◌, [], IfOk, OnOk, drop, length, map, string_bytes};
 ghost use Rattle.bech32_hrp.specs.HrpBytes.{hrp_bytes};
 ghost use Rattle.bech32_meant.specs.Added.{AddsAll, AddsIf, AddsTry, front_for};
-ghost use Rattle.bech32_meant.specs.Meant.{AddsSlips, AreFound, AreMeant, itself, tried};
+ghost use Rattle.bech32_meant.specs.Meant.{AddsSlips, AreAnswers, AreFound, AreMeant, itself, max_typed_bytes, tried};
+ghost use Rattle.bech32_typed.specs.Cleaned.{cleaned};
+ghost use Rattle.bech32_typed.specs.Fronts.{fronts};
 ghost use Rattle.bech32_suggest.specs.Suggestions.{IsAddressUnder};
 ghost use Rattle.bech32_typed.specs.Tries.{levels_of};
 ghost use Rattle.bech32_typed.specs.declared.tries.Pass.TheVariants.{AsItLooks, Unread};
@@ -145,7 +147,9 @@ fn push_found<A: Allocator + Copy>(
 ) -> Result<(), AllocError>
     requires empty { found.old.items ≡ [] }
     requires right { right.now ≡ front_for (hrp_bytes hrp.now) }
-    ensures { OnOk result (AreFound (hrp_bytes hrp.now) text.now fronts.now
+    ensures value { OnOk result (AreFound (hrp_bytes hrp.now) text.now fronts.now
+        (map (λ s. (string_bytes s.text, s.slips)) found.new.items)) }
+    ensures answers { OnOk result (AreAnswers (hrp_bytes hrp.now) text.now fronts.now
         (map (λ s. (string_bytes s.text, s.slips)) found.new.items)) }
 {
     push_itself(*alloc, hrp, right, text, fronts, found)?;
@@ -205,7 +209,11 @@ pub fn meant<A: Allocator + Copy>(
     typed: &str,
     hrp: &Hrp,
 ) -> Result<Vec<Meant<String<A>>, A>, AllocError>
-    ensures { IfOk result (λ found. AreMeant typed.now (hrp_bytes hrp.now)
+    ensures value { IfOk result (λ found. AreMeant typed.now (hrp_bytes hrp.now)
+        (map (λ s. (string_bytes s.text, s.slips)) found.items)) }
+    ensures answers { length typed.now ≤ max_typed_bytes → IfOk result
+        (λ found. AreAnswers (hrp_bytes hrp.now) (cleaned typed.now)
+        (fronts (front_for (hrp_bytes hrp.now)) (cleaned typed.now))
         (map (λ s. (string_bytes s.text, s.slips)) found.items)) }
 {
     let mut found = Vec::new(alloc);

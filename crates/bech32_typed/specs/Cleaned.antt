@@ -1,6 +1,7 @@
 -- How a typed text is read, character by character.
 use Rattle.std.specs.Prelude.{◌+◌, ◌-◌, ◌==◌, ◌&&◌, ◌||◌, ℕ, if◌then◌else◌, nat_le}
-use Rattle.std.specs.Prelude.{Bool, false, true, List, [], ◌∷◌, Option, Some, None, codes, length, take, unwrap_or}
+use Rattle.std.specs.Prelude.{Bool, false, true, List, [], ◌∷◌, Option, Some, None}
+use Rattle.std.specs.Prelude.{codes, length, take, unwrap_or}
 use Rattle.std.specs.Char.{to_ascii_lowercase}
 use Rattle.std.specs.List.{flat_map, list_any}
 use Rattle.std.specs.Str.{chars}
@@ -92,8 +93,8 @@ begins_lower (x ∷ xs) (c ∷ cs) = (to_ascii_lowercase c == x) && begins_lower
 abbrev pub is_request : List ℕ → Bool
 is_request text = begins_lower (codes "bitcoin:") (trimmed text)
 
--- the place of the last `?` before the first `=`, where there are both: of a text of which the first
--- character is at a place, and of the last `?` before that
+-- the place of the last `?` before the first `=`, where there are both, in a text whose first
+-- character is at a place, where a mark is the place of the last `?` before that
 abbrev pub query_place : List ℕ → ℕ → Option ℕ → Option ℕ
 query_place [] place mark = None
 query_place (c ∷ cs) place mark =

@@ -1,6 +1,7 @@
 -- What stands for the human-readable part and the separator of a typed text.
 use Rattle.std.specs.Prelude.{◌+◌, ◌-◌, ◌==◌, ◌&&◌, ◌||◌, ℕ, if◌then◌else◌, nat_eq, nat_le, nat_lt}
-use Rattle.std.specs.Prelude.{Bool, true, false, List, [], ◌∷◌, ◌++◌, codes, length, map, take, drop}
+use Rattle.std.specs.Prelude.{Bool, true, false, List, [], ◌∷◌, ◌++◌, codes}
+use Rattle.std.specs.Prelude.{length, map, take, drop}
 use Rattle.std.specs.Cmp.Lexicographic.{pointwise}
 use Rattle.std.specs.List.{filter, list_any, range_with_len}
 use Rattle.bech32_typed.specs.Frames.{longest_with_slips}
@@ -72,8 +73,8 @@ begins_with front text = pointwise nat_eq (take (length front) text) front
 abbrev pub scheme : List ℕ
 scheme = codes "bitcoin"
 
--- the fronts of a typed text: the right one, where it begins with that, or with the scheme and that;
--- else first those with one slip, then those with two
+-- the fronts of a typed text: the right one, where it begins with that, or with the scheme and
+-- that; else first those with one slip, then those with two
 abbrev pub fronts : List ℕ → List ℕ → List Front
 fronts right text =
     if begins_with right text then front_of 0 (length right) ∷ []

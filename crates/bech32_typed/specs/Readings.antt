@@ -1,5 +1,5 @@
--- How a typed data part may be read: BIP-173, section Bech32, chose an alphabet without `1`, `b`, `i`
--- and `o`, since they look like others. Who types one of them meant another.
+-- How a typed data part may be read. The alphabet has no `1`, `b`, `i` and `o`, since they look
+-- like others (BIP-173, section Bech32): who typed one of them meant another.
 use Rattle.std.specs.Prelude.{◌/◌, ◌%◌, ◌^◌, ◌==◌, ◌||◌, ℕ, if◌then◌else◌}
 use Rattle.std.specs.Prelude.{Bool, List, [], ◌∷◌, length, map}
 use Rattle.std.specs.List.{filter, list_any, range_with_len}

@@ -96,7 +96,8 @@ fn is_second(i: usize, bit: usize) -> bool
     (i >> bit) % 2 == 1
 }
 
-/// One reading of a typed data part, of as many as there are for [`count_twos`] choices between two.
+/// One reading of a typed data part: a number chooses, bit by bit, between the two looks of each of
+/// the [`count_twos`] characters that have two.
 pub fn reading<A: Allocator>(alloc: A, text: &[u8], i: usize) -> Result<Vec<u8, A>, AllocError>
     requires { twos text.now < 64 }
     ensures { IfOk result (λ v. v.items ≡ reading_at text.now i) }
