@@ -1,5 +1,5 @@
 -- What is found is each once, and all that is wanted.
-use Rattle.std.proofs.Common.{◌≡◌, ◌≤◌, ◌⊎◌, ℕ, zero, suc, List, [], ◌∷◌, ◌++◌, arith, inl, inr, map, refl, subst, sym}
+use Rattle.std.proofs.Common.{◌≤◌, ℕ, zero, suc, List, [], ◌∷◌, arith, inl, inr, map, refl, subst, sym}
 use Rattle.std.specs.List.{AllByRecursion}
 use Rattle.std.proofs.lemmas.List.{map-append}
 use Rattle.bech32_poly.specs.Distinct.{IsAmong, IsOnce}
@@ -33,7 +33,7 @@ module _ (hrp text : List ℕ) (fs : List Front) where
       subst Answers (sym same) (
         all_push (λ (a : Answer). IsAnswer hrp text fs a.0) before (x, slips) q.0 (is new.0),
         subst IsOnce (sym (map-append (λ (a : Answer). a.0) before ((x, slips) ∷ [])))
-        (once-append (map (λ (a : Answer). a.0) before) (x ∷ []) q.1 (tt, tt) (λ y m n. elim n [ inl e ↦ new.1 (subst (λ z. IsAmong z (map (λ (a : Answer). a.0) before)) e m) | inr z ↦ z ])),
+            (once-append (map (λ (a : Answer). a.0) before) (x ∷ []) q.1 (tt, tt) (λ y m n. elim n [ inl e ↦ new.1 (subst (λ z. IsAmong z (map (λ (a : Answer). a.0) before)) e m) | inr z ↦ z ])),
       )
   keeps-if P slips x is before after (inr (old, same)) q = subst Answers (sym same) q
 
