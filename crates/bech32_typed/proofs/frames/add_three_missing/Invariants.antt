@@ -1,0 +1,8 @@
+use Rattle.std.proofs.Common.{◌≡◌, map}
+use Rattle.std.specs.List.{range_with_len}
+use Rattle.bech32_typed.specs.Frames.{with_frames, with_three_unread_at}
+use Rattle.bech32_typed.proofs.frames.add_three_missing.Given as goal
+
+abbrev pub invariant-loop-i : goal.invariant-loop-i
+invariant-loop-i g l = map (λ f. f.items) l.frames.keys
+    ≡ with_frames (map (λ f. f.items) l.fn.frames.keys) (map (with_three_unread_at l.text) (range_with_len 0 l.i))
