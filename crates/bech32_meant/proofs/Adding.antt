@@ -11,7 +11,7 @@ use Rattle.bech32_poly.specs.Distinct.{IsAmong}
 use Rattle.bech32_checksum.specs.Code.{Code}
 use Rattle.bech32_near.specs.NearTexts.{AreNearTexts}
 use Rattle.bech32_suggest.specs.Suggestions.{near_bound}
-use Rattle.bech32_meant.specs.Added.{AddsAll, AddsIf, AddsNear, Answer, IsWanted}
+use Rattle.bech32_meant.specs.Added.{AddsAll, AddsIf, AddsNearby, Answer, IsInUseUnder}
 
 module _ (P : List ℕ → Type 0) (slips : ℕ) {M : Type 0} (f : M → Answer) (text : List ℕ) where
   -- a text among those that are found is not added
@@ -59,12 +59,12 @@ module _ {X : Type 0} (Adds : List Answer → X → List Answer → Type 0) wher
 
 module _ {M R E : Type 0} (hrp : List ℕ) (slips : ℕ) (code : Code) (text : List ℕ) (before after : List Answer) (items shown : List M) (r : Result R E) (same : shown ≡ items) where
   pub adds_near : (f : M → List (ℕ × Fe32) × List ℕ) (given : List ℕ) (errors : ℕ) → AreNearTexts code near_bound text given errors (map f items)
-      → OnOk r (AddsAll (AddsIf (IsWanted hrp) slips) before (map (λ m. (f m).1) shown) after) → OnOk r (AddsNear code hrp slips errors text given before after)
+      → OnOk r (AddsAll (AddsIf (IsInUseUnder hrp) slips) before (map (λ m. (f m).1) shown) after) → OnOk r (AddsNearby code hrp slips errors text given before after)
   adds_near f given errors are added =
       on_ok r (λ h. record {
         near = map f items;
         are = are;
-        adds = subst (λ (l : List (List ℕ)). AddsAll (AddsIf (IsWanted hrp) slips) before l after) (ap (map (λ m. (f m).1)) same ∙ sym (map-map (λ p. p.1) f items)) h;
+        adds = subst (λ (l : List (List ℕ)). AddsAll (AddsIf (IsInUseUnder hrp) slips) before l after) (ap (map (λ m. (f m).1)) same ∙ sym (map-map (λ p. p.1) f items)) h;
       }) added
     where
       on_ok : {P Q : Type 0} (r : Result R E) → (P → Q) → OnOk r P → OnOk r Q

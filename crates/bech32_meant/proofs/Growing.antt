@@ -9,7 +9,7 @@ use Rattle.bech32_checksum.specs.Code.{Code, bech32, bech32m}
 use Rattle.bech32_near.specs.NearTexts.{IsNearText}
 use Rattle.bech32_suggest.specs.Suggestions.{near_bound}
 use Rattle.bech32_suggest.specs.Typed.{as_read, unread_locations}
-use Rattle.bech32_meant.specs.Added.{AddsAll, AddsByBoth, AddsFrame, AddsIf, AddsNear, AddsTry, Answer, HasChecksum, IsFound, IsNearByEither, IsNearFrame, IsNearTry, IsWanted, filled, front_for}
+use Rattle.bech32_meant.specs.Added.{AddsAll, AddsByBoth, AddsFrame, AddsIf, AddsNearby, AddsTry, Answer, HasChecksum, IsFound, IsNearByEither, IsNearFrame, IsNearTry, IsInUseUnder, filled, front_for}
 use Rattle.bech32_typed.specs.Tries.{Try}
 
 -- nothing that is found gets lost
@@ -47,17 +47,17 @@ finds-all Adds grows before after (y ∷ ys) x t finds (inr m) h = finds-all Add
 -- ---- the texts near a frame
 
 module _ (hrp : List ℕ) (slips errors : ℕ) where
-  grows-near : (code : Code) (text given : List ℕ) (before after : List Answer) (t : List ℕ) → AddsNear code hrp slips errors text given before after → IsFound before t → IsFound after t
-  grows-near code text given before after t h m = grows-all (AddsIf (IsWanted hrp) slips) (grows-if (IsWanted hrp) slips) before after (map (λ n. n.1) h.near) t h.adds m
+  grows-near : (code : Code) (text given : List ℕ) (before after : List Answer) (t : List ℕ) → AddsNearby code hrp slips errors text given before after → IsFound before t → IsFound after t
+  grows-near code text given before after t h m = grows-all (AddsIf (IsInUseUnder hrp) slips) (grows-if (IsInUseUnder hrp) slips) before after (map (λ n. n.1) h.near) t h.adds m
 
-  finds-near : (code : Code) (text given : List ℕ) (before after : List Answer) (other : List ℕ) → AddsNear code hrp slips errors text given before after
-      → IsNearText code near_bound text given errors other → IsWanted hrp (lowered other) → IsFound after (lowered other)
+  finds-near : (code : Code) (text given : List ℕ) (before after : List Answer) (other : List ℕ) → AddsNearby code hrp slips errors text given before after
+      → IsNearText code near_bound text given errors other → IsInUseUnder hrp (lowered other) → IsFound after (lowered other)
   finds-near code text given before after other h near wanted =
-      finds-all (AddsIf (IsWanted hrp) slips) (grows-if (IsWanted hrp) slips) before after (map (λ n. n.1) h.near) (lowered other) (lowered other)
-      (λ b a adds. finds-if (IsWanted hrp) slips b a (lowered other) adds wanted) (h.are.all other near) h.adds
+      finds-all (AddsIf (IsInUseUnder hrp) slips) (grows-if (IsInUseUnder hrp) slips) before after (map (λ n. n.1) h.near) (lowered other) (lowered other)
+      (λ b a adds. finds-if (IsInUseUnder hrp) slips b a (lowered other) adds wanted) (h.are.all other near) h.adds
 
   finds-both : (text given : List ℕ) (before after : List Answer) (other : List ℕ) → AddsByBoth hrp slips errors text given before after
-      → IsNearByEither text given errors other → IsWanted hrp (lowered other) → IsFound after (lowered other)
+      → IsNearByEither text given errors other → IsInUseUnder hrp (lowered other) → IsFound after (lowered other)
   finds-both text given before after other h (inl near) wanted = grows-near bech32m text given h.0 after (lowered other) h.2 (finds-near bech32 text given before h.0 other h.1 near wanted)
   finds-both text given before after other h (inr near) wanted = finds-near bech32m text given h.0 after other h.2 near wanted
 
@@ -88,7 +88,7 @@ module _ (hrp : List ℕ) (slips : ℕ) where
   grows-frame errors before after frame t (inr (none, same)) m = subst (λ (l : List Answer). IsFound l t) (sym same) m
 
   finds-frame : (errors : ℕ) (before after : List Answer) (frame other : List ℕ) → AddsFrame hrp slips errors before frame after
-      → IsNearFrame hrp frame errors other → IsWanted hrp (lowered other) → IsFound after (lowered other)
+      → IsNearFrame hrp frame errors other → IsInUseUnder hrp (lowered other) → IsFound after (lowered other)
   finds-frame errors before after frame other (inl (has, h)) near wanted =
       finds-both hrp slips errors (front_for hrp ++ as_read frame) (unread_locations frame) before after other h near wanted
   finds-frame errors before after frame other (inr (none, same)) near wanted = absurd (none (has-checksum (front_for hrp ++ as_read frame) (unread_locations frame) errors other near))
@@ -97,7 +97,7 @@ module _ (hrp : List ℕ) (slips : ℕ) where
   grows-try before after t text h m = grows-all (AddsFrame hrp slips t.errors) (grows-frame t.errors) before after (filled t.frame) text h m
 
   -- an address near a frame of a try is found
-  pub finds-try : (before after : List Answer) (t : Try) (other : List ℕ) → AddsTry hrp slips before t after → IsNearTry hrp t other → IsWanted hrp (lowered other) → IsFound after (lowered other)
+  pub finds-try : (before after : List Answer) (t : Try) (other : List ℕ) → AddsTry hrp slips before t after → IsNearTry hrp t other → IsInUseUnder hrp (lowered other) → IsFound after (lowered other)
   finds-try before after t other h near wanted =
       finds-all (AddsFrame hrp slips t.errors) (grows-frame t.errors) before after (filled t.frame) near.0 (lowered other)
       (λ b a adds. finds-frame t.errors b a near.0 other adds near.2 wanted) near.1 h

@@ -37,21 +37,21 @@ AddsIf P slips before text after =
     ⊎ (((P text → ⊥) ⊎ IsFound before text) × (after ≡ before))
 
 -- an address of the part, of a form in use
-abbrev pub IsWanted : List ℕ → List ℕ → Type 0
-IsWanted hrp text = IsAddressUnder hrp text × IsAddressInUse text
+abbrev pub IsInUseUnder : List ℕ → List ℕ → Type 0
+IsInUseUnder hrp text = IsAddressUnder hrp text × IsAddressInUse text
 
 -- the addresses among the texts near one are added, by a checksum
-pub record AddsNear (code : Code) (hrp : List ℕ) (slips errors : ℕ) (text given : List ℕ)
+pub record AddsNearby (code : Code) (hrp : List ℕ) (slips errors : ℕ) (text given : List ℕ)
     (before after : List Answer) : Type 0 where
   pub near : List (List (ℕ × Fe32) × List ℕ)
   pub are : AreNearTexts code near_bound text given errors near
-  pub adds : AddsAll (AddsIf (IsWanted hrp) slips) before (map (λ m. m.1) near) after
+  pub adds : AddsAll (AddsIf (IsInUseUnder hrp) slips) before (map (λ m. m.1) near) after
 
 -- by Bech32, and then by Bech32m
 abbrev pub AddsByBoth : List ℕ → ℕ → ℕ → List ℕ → List ℕ → List Answer → List Answer → Type 0
 AddsByBoth hrp slips errors text given before after =
-    (middle : List Answer) × AddsNear bech32 hrp slips errors text given before middle
-    × AddsNear bech32m hrp slips errors text given middle after
+    (middle : List Answer) × AddsNearby bech32 hrp slips errors text given before middle
+    × AddsNearby bech32m hrp slips errors text given middle after
 
 -- the human-readable part in lower case, with its separator
 abbrev pub front_for : List ℕ → List ℕ
@@ -74,14 +74,14 @@ AddsFrame hrp slips errors before frame after =
     ⊎ ((HasChecksum (front_for hrp ++ as_read frame) → ⊥) × (after ≡ before))
 
 -- the first character that cannot be read is this one
-abbrev pub with_first : List ℕ → ℕ → List ℕ
-with_first [] c = []
-with_first (x ∷ xs) c = if x == unread then c ∷ xs else x ∷ with_first xs c
+abbrev pub with_first_read : List ℕ → ℕ → List ℕ
+with_first_read [] c = []
+with_first_read (x ∷ xs) c = if x == unread then c ∷ xs else x ∷ with_first_read xs c
 
 -- the checksums find three characters that cannot be read: of four, the first may be any of the
 -- alphabet
 abbrev pub filled : List ℕ → List (List ℕ)
-filled frame = if unread_in frame == 4 then map (with_first frame) alphabet else frame ∷ []
+filled frame = if unread_in frame == 4 then map (with_first_read frame) alphabet else frame ∷ []
 
 -- what a try finds is added
 abbrev pub AddsTry : List ℕ → ℕ → List Answer → Try → List Answer → Type 0

@@ -13,7 +13,7 @@ use Rattle.bech32_typed.specs.declared.fronts.Front.{Front}
 use Rattle.bech32_typed.specs.declared.tries.Pass.{Pass}
 use Rattle.bech32_typed.specs.declared.tries.Pass.TheVariants.{AsItLooks, Unread}
 use Rattle.bech32_meant.specs.Added.{AddsAll, AddsIf, AddsTry, Answer, IsFound, IsNearTry}
-use Rattle.bech32_meant.specs.Added.{IsWanted, front_for}
+use Rattle.bech32_meant.specs.Added.{IsInUseUnder, front_for}
 
 -- the typed text itself, where it begins with the right front: then that is its first one
 abbrev pub itself : List ℕ → List ℕ → List Front → List (List ℕ)
@@ -22,20 +22,21 @@ itself right text (front ∷ more) =
     if front.slips == 0 then (right ++ drop front.size text) ∷ [] else []
 
 -- what is tried with so many slips, where that level is
-abbrev pub tried : Pass → List ℕ → List Front → ℕ → List Try
-tried pass text fs slips =
+abbrev pub tries_at : Pass → List ℕ → List Front → ℕ → List Try
+tries_at pass text fs slips =
     if nat_lt slips (levels_of pass text fs) then level pass text fs slips else []
 
 -- what so many slips find is added: as the text looks, and then with characters unread
 abbrev pub AddsSlips : List ℕ → List ℕ → List Front → List Answer → ℕ → List Answer → Type 0
 AddsSlips hrp text fs before slips after =
     (middle : List Answer)
-    × AddsAll (AddsTry hrp slips) before (tried AsItLooks text fs slips) middle
-    × AddsAll (AddsTry hrp slips) middle (tried Unread text fs slips) after
+    × AddsAll (AddsTry hrp slips) before (tries_at AsItLooks text fs slips) middle
+    × AddsAll (AddsTry hrp slips) middle (tries_at Unread text fs slips) after
 
 -- what is found for a cleaned text: itself, if it is an address of any form, and then what no slip
 -- finds, one, and two
-pub record AreFound (hrp text : List ℕ) (fs : List Front) (found : List Answer) : Type 0 where
+pub record AreFoundBySlips (hrp text : List ℕ) (fs : List Front) (found : List Answer)
+    : Type 0 where
   pub exact : List Answer
   pub adds_itself : AddsAll (AddsIf (IsAddressUnder hrp) 0) []
       (itself (front_for hrp) text fs) exact
@@ -50,19 +51,19 @@ abbrev pub AreMeant : List ℕ → List ℕ → List Answer → Type 0
 AreMeant typed hrp found =
     ((max_typed_bytes < length typed) × (found ≡ []))
     ⊎ ((length typed ≤ max_typed_bytes)
-    × AreFound hrp (cleaned typed) (fronts (front_for hrp) (cleaned typed)) found)
+    × AreFoundBySlips hrp (cleaned typed) (fronts (front_for hrp) (cleaned typed)) found)
 
 -- the text is an address of the part, of a form in use, or the typed text itself
-abbrev pub IsAnswer : List ℕ → List ℕ → List Front → List ℕ → Type 0
-IsAnswer hrp text fs other =
+abbrev pub IsMeantAddress : List ℕ → List ℕ → List Front → List ℕ → Type 0
+IsMeantAddress hrp text fs other =
     IsAddressUnder hrp other
     × (IsAddressInUse other ⊎ IsAmong other (itself (front_for hrp) text fs))
 
 -- what that says of the answers: each is such a text, and is there once; each address of a form in
 -- use is there that is near what is tried
 pub record AreAnswers (hrp text : List ℕ) (fs : List Front) (found : List Answer) : Type 0 where
-  pub each : AllByRecursion (λ a. IsAnswer hrp text fs a.0) found
+  pub each : AllByRecursion (λ a. IsMeantAddress hrp text fs a.0) found
   pub once : IsOnce (map (λ a. a.0) found)
-  pub all : (pass : Pass) (slips : ℕ) → slips ≤ 2 → (t : Try) → IsAmong t (tried pass text fs slips)
-      → (other : List ℕ) → IsNearTry hrp t other → IsWanted hrp (lowered other)
+  pub all : (pass : Pass) (slips : ℕ) → slips ≤ 2
+      → (t : Try) → IsAmong t (tries_at pass text fs slips) → (other : List ℕ) → IsNearTry hrp t other → IsInUseUnder hrp (lowered other)
       → IsFound found (lowered other)

@@ -8,7 +8,7 @@ ghost use Rattle.bech32_suggest.specs.Forms.{IsAddressInUse, IsFormInUse};
 ghost use Rattle.bech32_suggest.specs.Suggestions.{IsAddressUnder, either_code, near_bound};
 ghost use Rattle.bech32_near.specs.NearTexts.{AreNearTexts};
 ghost use Rattle.bech32_suggest.specs.Typed.{as_read, typed_character, unread_locations};
-ghost use Rattle.bech32_meant.specs.Added.{AddsAll, AddsByBoth, AddsFrame, AddsIf, AddsNear, HasChecksum, IsWanted, front_for};
+ghost use Rattle.bech32_meant.specs.Added.{AddsAll, AddsByBoth, AddsFrame, AddsIf, AddsNearby, HasChecksum, IsInUseUnder, front_for};
 
 use bech32_checksum::{Bech32, Bech32m};
 use bech32_correction::Mended;
@@ -72,7 +72,7 @@ fn is_address_in_use(text: &str) -> bool
 
 // Whether a text is an address of the part, of a form in use.
 fn is_wanted(text: &str, hrp: &Hrp) -> bool
-    ensures { IsTrue result ↔ IsWanted (hrp_bytes hrp.now) text.now }
+    ensures { IsTrue result ↔ IsInUseUnder (hrp_bytes hrp.now) text.now }
 {
     is_address_under(text, hrp) && is_address_in_use(text)
 }
@@ -97,7 +97,7 @@ fn push_one<A: Allocator + Copy>(
     text: &str,
     found: &mut Vec<Meant<String<A>>, A>,
 ) -> Result<(), AllocError>
-    ensures { OnOk result (AddsIf (IsWanted (hrp_bytes hrp.now)) slips
+    ensures { OnOk result (AddsIf (IsInUseUnder (hrp_bytes hrp.now)) slips
         (map (λ s. (string_bytes s.text, s.slips)) found.old.items) text.now
         (map (λ s. (string_bytes s.text, s.slips)) found.new.items)) }
 {
@@ -120,7 +120,7 @@ fn push_each<A: Allocator + Copy, T: AsText>(
     texts: &[T],
     found: &mut Vec<Meant<String<A>>, A>,
 ) -> Result<(), AllocError>
-    ensures { OnOk result (AddsAll (AddsIf (IsWanted (hrp_bytes hrp.now)) slips)
+    ensures { OnOk result (AddsAll (AddsIf (IsInUseUnder (hrp_bytes hrp.now)) slips)
         (map (λ s. (string_bytes s.text, s.slips)) found.old.items) (map T.text_of texts.now)
         (map (λ s. (string_bytes s.text, s.slips)) found.new.items)) }
 {
@@ -162,7 +162,7 @@ fn push_near<A: Allocator + Copy>(
     found: &mut Vec<Meant<String<A>>, A>,
 ) -> Result<(), AllocError>
     requires { (length reading.now.text.now ≤ 1023) × (6 ≤ length reading.now.data_part.now) }
-    ensures { OnOk result (AddsNear (either_code is_bech32m) (hrp_bytes asked.now.hrp.now)
+    ensures { OnOk result (AddsNearby (either_code is_bech32m) (hrp_bytes asked.now.hrp.now)
         asked.now.slips errors reading.now.text.now unread.now
         (map (λ s. (string_bytes s.text, s.slips)) found.old.items)
         (map (λ s. (string_bytes s.text, s.slips)) found.new.items)) }

@@ -3,7 +3,7 @@
 ghost use Rattle.std.specs.Prelude.{◌≡◌, ◌≤◌, ◌++◌, [], IfOk, OnOk, drop, length, map, string_bytes};
 ghost use Rattle.bech32_hrp.specs.HrpBytes.{hrp_bytes};
 ghost use Rattle.bech32_meant.specs.Added.{AddsAll, AddsIf, AddsTry, front_for};
-ghost use Rattle.bech32_meant.specs.Meant.{AddsSlips, AreAnswers, AreFound, AreMeant, itself, max_typed_bytes, tried};
+ghost use Rattle.bech32_meant.specs.Meant.{AddsSlips, AreAnswers, AreFoundBySlips, AreMeant, itself, max_typed_bytes, tries_at};
 ghost use Rattle.bech32_typed.specs.Cleaned.{cleaned};
 ghost use Rattle.bech32_typed.specs.Fronts.{fronts};
 ghost use Rattle.bech32_suggest.specs.Suggestions.{IsAddressUnder};
@@ -44,7 +44,7 @@ fn push_tried<A: Allocator + Copy>(
     requires right { right.now ≡ front_for (hrp_bytes asked.now.hrp.now) }
     ensures { OnOk result (AddsAll (AddsTry (hrp_bytes asked.now.hrp.now) asked.now.slips)
         (map (λ s. (string_bytes s.text, s.slips)) found.old.items)
-        (tried pass text.now fronts.now asked.now.slips)
+        (tries_at pass text.now fronts.now asked.now.slips)
         (map (λ s. (string_bytes s.text, s.slips)) found.new.items)) }
 {
     if asked.slips >= levels {
@@ -147,7 +147,7 @@ fn push_found<A: Allocator + Copy>(
 ) -> Result<(), AllocError>
     requires empty { found.old.items ≡ [] }
     requires right { right.now ≡ front_for (hrp_bytes hrp.now) }
-    ensures value { OnOk result (AreFound (hrp_bytes hrp.now) text.now fronts.now
+    ensures value { OnOk result (AreFoundBySlips (hrp_bytes hrp.now) text.now fronts.now
         (map (λ s. (string_bytes s.text, s.slips)) found.new.items)) }
     ensures answers { OnOk result (AreAnswers (hrp_bytes hrp.now) text.now fronts.now
         (map (λ s. (string_bytes s.text, s.slips)) found.new.items)) }

@@ -6,7 +6,7 @@ ghost use Rattle.bech32_hrp.specs.HrpBytes.{hrp_bytes};
 ghost use Rattle.bech32_typed.specs.Readings.{twos};
 ghost use Rattle.bech32_typed.specs.Tries.{level, readings_of, tries_of_front, tries_of_numbered, tries_of_reading, with_errors};
 ghost use Rattle.bech32_typed.specs.declared.tries.Pass.TheVariants.{AsItLooks, Unread};
-ghost use Rattle.bech32_meant.specs.Added.{AddsAll, AddsFrame, AddsTry, filled, front_for, with_first};
+ghost use Rattle.bech32_meant.specs.Added.{AddsAll, AddsFrame, AddsTry, filled, front_for, with_first_read};
 
 use crate::added::{Asked, Meant, push_frame};
 use bech32_typed::{
@@ -21,7 +21,7 @@ const ALPHABET: [u8; 32] = *b"qpzry9x8gf2tvdw0s3jn54khce6mua7l";
 // A frame whose first character that cannot be read is this one.
 fn with_first_unread(frame: &[u8], c: u8) -> Frame
     requires { length frame.now ≤ 62 }
-    ensures { result.items ≡ with_first frame.now c }
+    ensures { result.items ≡ with_first_read frame.now c }
 {
     for i in 0..frame.len() {
         if frame[i] == b'?' {
@@ -46,7 +46,7 @@ fn push_with_each<A: Allocator + Copy>(
     ensures { OnOk result (AddsAll
         (AddsFrame (hrp_bytes asked.now.hrp.now) asked.now.slips errors)
         (map (λ s. (string_bytes s.text, s.slips)) found.old.items)
-        (map (with_first frame.now) characters.now)
+        (map (with_first_read frame.now) characters.now)
         (map (λ s. (string_bytes s.text, s.slips)) found.new.items)) }
 {
     for i in 0..characters.len() {

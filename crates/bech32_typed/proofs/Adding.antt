@@ -36,12 +36,9 @@ inserted frame keys = by (list_any (λ k. pointwise nat_eq frame.items k.items) 
     by true h = ap (λ b. cond b (map (λ f. f.items) keys) (map (λ f. f.items) keys ++ frame.items ∷ [])) (sym h ∙ among frame keys)
     by false h = map-append (λ f. f.items) keys (frame ∷ []) ∙ ap (λ b. cond b (map (λ f. f.items) keys) (map (λ f. f.items) keys ++ frame.items ∷ [])) (sym h ∙ among frame keys)
 
--- a frame that is added, and a text that is none
+-- a frame that is added
 pub adds : (before : List (List ℕ)) (text : List ℕ) → is_frame text ≡ true → with_frames before (text ∷ []) ≡ with_text before text
 adds before text is = ap (λ b. fold with_text before (cond b (text ∷ []) [])) is
-
-pub skips : (before : List (List ℕ)) (text : List ℕ) → is_frame text ≡ false → with_frames before (text ∷ []) ≡ before
-skips before text is = ap (λ b. fold with_text before (cond b (text ∷ []) [])) is
 
 -- the same where one more slip is made of each
 pub one_deeper : (before : List (List ℕ)) (f : ℕ → List ℕ) (i : ℕ)
@@ -55,10 +52,6 @@ one_deeper before f i =
 pub deeper-append : (d : Bool) (xs ys : List (List ℕ)) → deeper d (xs ++ ys) ≡ deeper d xs ++ deeper d ys
 deeper-append false xs ys = refl
 deeper-append true xs ys = flat_map-append slipped xs ys
-
-pub deeper-none : (d : Bool) → deeper d [] ≡ []
-deeper-none false = refl
-deeper-none true = refl
 
 module _ (d : Bool) (before : List (List ℕ)) (f : ℕ → List ℕ) (p : ℕ → Bool) (i : ℕ) where
   -- one more of these is added, or none

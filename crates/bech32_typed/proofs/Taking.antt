@@ -1,22 +1,17 @@
 -- What is left of a budget, try after try.
-use Rattle.std.proofs.Common.{◌≡◌, ◌<◌, ◌≤◌, ◌∙◌, ◌+◌, ◌-◌, ◌&&◌, ℕ, Bool, true, false, List, [], ◌∷◌, ◌++◌, Option, None, Some, length, append-nil, drop, get_or, map-id, take, suc, inl, inr, refl, sym, ap, subst, le-leb, leb-true, arith}
-use Rattle.std.specs.Prelude.{nat_le}
+use Rattle.std.proofs.Common.{◌≡◌, ◌<◌, ◌≤◌, ◌∙◌, ◌+◌, ℕ, List, [], ◌∷◌, ◌++◌, Option, None, Some, length, append-nil, drop, get_or, map-id, take, suc, inl, inr, sym, ap, subst, arith}
 use Rattle.std.specs.List.{flat_map, range_with_len, sum_by}
 use Rattle.std.proofs.Math.Seq.{drop-cons}
 use Rattle.std.proofs.lemmas.List.{length-append, take-append-drop, take_more}
 use Rattle.std.proofs.lemmas.List.Concat.{flat_map-append}
 use Rattle.std.proofs.lemmas.List.FromFn.{get_or-range_with_len, length-range_with_len, take-map-range_with_len}
 use Rattle.std.proofs.lemmas.List.Sums.{sum_by-append}
-use Rattle.bech32_typed.specs.Tries.{IsTaken, Try, covers, minus, texts_of}
+use Rattle.bech32_typed.specs.Tries.{IsTaken, Try, texts_of_try}
 use Rattle.bech32_typed.specs.declared.tries.Budget.{Budget}
 
--- nothing is tried
-pub taken-none : (budget : Budget) → IsTaken budget [] (Some budget)
-taken-none budget = (omega arith, omega arith)
-
 module _ (budget middle : Budget) (xs ys : List Try) (before : IsTaken budget xs (Some middle)) where
-  texts-append : sum_by texts_of (xs ++ ys) ≡ sum_by texts_of xs + sum_by texts_of ys
-  texts-append = sum_by-append texts_of xs ys
+  texts-append : sum_by texts_of_try (xs ++ ys) ≡ sum_by texts_of_try xs + sum_by texts_of_try ys
+  texts-append = sum_by-append texts_of_try xs ys
 
   tries-append : length (xs ++ ys) ≡ length xs + length ys
   tries-append = length-append xs ys
@@ -29,7 +24,7 @@ module _ (budget middle : Budget) (xs ys : List Try) (before : IsTaken budget xs
 
 -- a budget that is not enough for the first is not enough for all
 pub taken-fewer : (budget : Budget) (xs ys : List Try) → IsTaken budget xs None → IsTaken budget (xs ++ ys) None
-taken-fewer budget xs ys (inl texts) = inl (omega (arith, texts, sum_by-append texts_of xs ys))
+taken-fewer budget xs ys (inl texts) = inl (omega (arith, texts, sum_by-append texts_of_try xs ys))
 taken-fewer budget xs ys (inr tries) = inr (omega (arith, tries, length-append xs ys))
 
 -- ---- what a function makes of a list, item after item
@@ -74,30 +69,3 @@ module _ (f : ℕ → List Try) (budget middle : Budget) (i : ℕ) (before : IsT
       taken-stop f budget middle (range_with_len 0 n) i 0 inside
       (subst (λ (ns : List ℕ). IsTaken budget (flat_map f ns) (Some middle)) (sym (numbers-take i n (omega (arith, within)))) before)
       (subst (λ (k : ℕ). IsTaken middle (f k) None) (sym is) here)
-
--- ---- whether a budget is enough
-
-not-leb : (a b : ℕ) → b < a → nat_le a b ≡ false
-not-leb a b l = by (nat_le a b) refl
-  where
-    by : (c : Bool) → nat_le a b ≡ c → c ≡ false
-    by true h = absurd (omega (arith, l, leb-true a b h))
-    by false h = refl
-
-pub covers-not : (budget : Budget) (ts : List Try) → IsTaken budget ts None → covers budget ts ≡ false
-covers-not budget ts (inl texts) = ap (λ b. b && nat_le (length ts) budget.tries) (not-leb (sum_by texts_of ts) budget.texts (omega (arith, texts)))
-covers-not budget ts (inr tries) = ap (λ b. nat_le (sum_by texts_of ts) budget.texts && b) (not-leb (length ts) budget.tries (omega (arith, tries))) ∙ and-false (nat_le (sum_by texts_of ts) budget.texts)
-  where
-    and-false : (b : Bool) → (b && false) ≡ false
-    and-false true = refl
-    and-false false = refl
-
-pub covers-all : (budget rest : Budget) (ts : List Try) → IsTaken budget ts (Some rest) → covers budget ts ≡ true
-covers-all budget rest ts (texts, tries) =
-    ap (λ b. b && nat_le (length ts) budget.tries) (le-leb (sum_by texts_of ts) budget.texts (omega (arith, texts))) ∙ le-leb (length ts) budget.tries (omega (arith, tries))
-
-pub rest-is : (budget rest : Budget) (ts : List Try) → IsTaken budget ts (Some rest) → minus budget ts ≡ rest
-rest-is budget rest ts (texts, tries) =
-    let t : budget.texts - sum_by texts_of ts ≡ rest.texts = omega (arith, texts) in
-    let n : budget.tries - length ts ≡ rest.tries = omega (arith, tries) in
-    ap (λ a. record { texts = a; tries = budget.tries - length ts }) t ∙ ap (λ b. record { texts = rest.texts; tries = b }) n

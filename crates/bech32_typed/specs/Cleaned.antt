@@ -57,11 +57,11 @@ abbrev pub look_alike : ℕ → ℕ
 look_alike c = resembling look_alikes c
 
 -- the character is in one of the ranges
-abbrev pub is_within : List (ℕ × ℕ) → ℕ → Bool
-is_within ranges c = list_any (λ range. nat_le range.0 c && nat_le c range.1) ranges
+abbrev pub is_in_ranges : List (ℕ × ℕ) → ℕ → Bool
+is_in_ranges ranges c = list_any (λ range. nat_le range.0 c && nat_le c range.1) ranges
 
 abbrev pub is_dropped : ℕ → Bool
-is_dropped c = is_within dropped c
+is_dropped c = is_in_ranges dropped c
 
 -- a character of full width is read as the one of ASCII
 abbrev pub narrowed : ℕ → ℕ

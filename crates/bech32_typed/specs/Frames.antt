@@ -77,18 +77,18 @@ four_missing text =
     then (text ++ unread ∷ unread ∷ unread ∷ unread ∷ []) ∷ [] else []
 
 -- what one slip makes of a typed data part, and what two make
-abbrev pub made_by_one : List ℕ → List (List ℕ)
-made_by_one text = slipped text ++ shortened text
+abbrev pub made_by_one_slip : List ℕ → List (List ℕ)
+made_by_one_slip text = slipped text ++ shortened text
 
-abbrev pub made_by_two : List ℕ → List (List ℕ)
-made_by_two text =
-    flat_map slipped (made_by_one text) ++ (three_missing text ++ four_missing text)
+abbrev pub made_by_two_slips : List ℕ → List (List ℕ)
+made_by_two_slips text =
+    flat_map slipped (made_by_one_slip text) ++ (three_missing text ++ four_missing text)
 
 -- what so many slips make of a typed data part: none, one, or two
 abbrev pub made_by : ℕ → List ℕ → List (List ℕ)
 made_by zero text = text ∷ []
-made_by (suc zero) text = made_by_one text
-made_by (suc (suc more)) text = made_by_two text
+made_by (suc zero) text = made_by_one_slip text
+made_by (suc (suc more)) text = made_by_two_slips text
 
 -- the text is added to those before, unless it is among them
 abbrev pub with_text : List (List ℕ) → List ℕ → List (List ℕ)

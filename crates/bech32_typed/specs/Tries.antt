@@ -26,8 +26,8 @@ choices m (suc (suc more)) = m * (m - 1) / 2
 
 -- how many texts a try stands for, by two checksums: each character that cannot be read may be any
 -- of 32, and each wrong one any of 31 others
-abbrev pub texts_of : Try → ℕ
-texts_of t =
+abbrev pub texts_of_try : Try → ℕ
+texts_of_try t =
     2 * (32 ^ unread_in t.frame
     * (choices (length t.frame - unread_in t.frame) t.errors * 31 ^ t.errors))
 
@@ -69,21 +69,21 @@ whole_budget = record { texts = 2 ^ 30 / 100; tries = 2 ^ 16 }
 
 -- it is enough for these tries
 abbrev pub covers : Budget → List Try → Bool
-covers budget ts = nat_le (sum_by texts_of ts) budget.texts && nat_le (length ts) budget.tries
+covers budget ts = nat_le (sum_by texts_of_try ts) budget.texts && nat_le (length ts) budget.tries
 
 -- what is left of it after them
 abbrev pub minus : Budget → List Try → Budget
 minus budget ts = record {
-  texts = budget.texts - sum_by texts_of ts;
+  texts = budget.texts - sum_by texts_of_try ts;
   tries = budget.tries - length ts;
 }
 
 -- what is left, or None where it is not enough
 abbrev pub IsTaken : Budget → List Try → Option Budget → Type 0
 IsTaken budget ts None =
-    (budget.texts < sum_by texts_of ts) ⊎ (budget.tries < length ts)
+    (budget.texts < sum_by texts_of_try ts) ⊎ (budget.tries < length ts)
 IsTaken budget ts (Some rest) =
-    (rest.texts + sum_by texts_of ts ≡ budget.texts) × (rest.tries + length ts ≡ budget.tries)
+    (rest.texts + sum_by texts_of_try ts ≡ budget.texts) × (rest.tries + length ts ≡ budget.tries)
 
 -- of how many levels, from the first on, a budget is enough for all, and what is left of it
 abbrev pub covered : Budget → List (List Try) → ℕ

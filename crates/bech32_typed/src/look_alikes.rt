@@ -1,7 +1,7 @@
 //! Characters that are read as others, or dropped.
 
 ghost use Rattle.std.specs.Prelude.{◌≡◌};
-ghost use Rattle.bech32_typed.specs.Cleaned.{is_dropped, is_within, look_alike, resembling};
+ghost use Rattle.bech32_typed.specs.Cleaned.{is_dropped, is_in_ranges, look_alike, resembling};
 
 // Characters that look like letters and digits: those of Cyrillic and Greek that Unicode's list of
 // confusable characters (UTS #39) has for them, letters with accents, signs that scanners take them
@@ -201,7 +201,7 @@ fn looked_up(table: &[(u32, u32)], c: u32) -> u32
 
 // Whether a character is in one of the ranges.
 fn is_in(ranges: &[(u32, u32)], c: u32) -> bool
-    ensures { result ≡ is_within ranges.now c }
+    ensures { result ≡ is_in_ranges ranges.now c }
 {
     for range in ranges {
         if range.0 <= c && c <= range.1 {

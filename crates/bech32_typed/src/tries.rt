@@ -6,7 +6,7 @@ ghost use Rattle.bech32_typed.specs.Frames.{frames_by, is_frame};
 ghost use Rattle.bech32_typed.specs.Fronts.{front_of};
 ghost use Rattle.bech32_typed.specs.Readings.{twos};
 ghost use Rattle.bech32_typed.specs.declared.tries.Pass.TheVariants.{AsItLooks, Unread};
-ghost use Rattle.bech32_typed.specs.Tries.{IsTaken, choices, covered, left_after, level, levels, levels_of, readings_of, texts_of, tries_of_front, tries_of_numbered, tries_of_reading, with_errors};
+ghost use Rattle.bech32_typed.specs.Tries.{IsTaken, choices, covered, left_after, level, levels, levels_of, readings_of, texts_of_try, tries_of_front, tries_of_numbered, tries_of_reading, with_errors};
 
 use crate::frames::{Frames, add_next, count_unread, since};
 use crate::fronts::Front;
@@ -78,7 +78,7 @@ fn others_of(errors: usize) -> u64
 fn texts(frame: &[u8], errors: usize) -> u64
     requires frame { is_frame frame.now ≡ true }
     requires few { errors ≤ 2 }
-    ensures { result ≡ texts_of (with_errors errors frame.now) }
+    ensures { result ≡ texts_of_try (with_errors errors frame.now) }
 {
     let unread = count_unread(frame);
     let read = frame.len().saturating_sub(unread) as u64;

@@ -4,12 +4,12 @@ use Rattle.bech32_hrp.specs.HrpBytes.{hrp_bytes}
 use Rattle.bech32_suggest.specs.Suggestions.{IsAddressUnder}
 use Rattle.bech32_meant.specs.Added.{AddsAll, AddsIf, Answer}
 use Rattle.bech32_meant.specs.Added.{front_for}
-use Rattle.bech32_meant.specs.Meant.{AreFound, itself}
+use Rattle.bech32_meant.specs.Meant.{AreFoundBySlips, itself}
 use Rattle.bech32_meant.proofs.Complete.{answers}
 use Rattle.bech32_meant.proofs.search.push_found.Given.{Over}
 use Rattle.bech32_meant.proofs.search.push_found.Goals as goal
 
-found_is : (g : Over) (c : goal.In_ok-push_slips-3 g) → AreFound (hrp_bytes c.args.hrp.now) c.args.text.now c.args.fronts.now (map (λ s. (string_bytes s.text, s.slips)) c.push_slips-3.new.found.items)
+found_is : (g : Over) (c : goal.In_ok-push_slips-3 g) → AreFoundBySlips (hrp_bytes c.args.hrp.now) c.args.text.now c.args.fronts.now (map (λ s. (string_bytes s.text, s.slips)) c.push_slips-3.new.found.items)
 found_is g c =
     let Adds = AddsIf (IsAddressUnder (hrp_bytes c.args.hrp.now)) 0 in
     let exact : List Answer = map (λ s. (string_bytes s.text, s.slips)) c.push_itself.new.found.items in
