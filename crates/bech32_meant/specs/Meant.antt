@@ -65,5 +65,6 @@ pub record AreAnswers (hrp text : List ℕ) (fs : List Front) (found : List Answ
   pub each : AllByRecursion (λ a. IsMeantAddress hrp text fs a.0) found
   pub once : IsOnce (map (λ a. a.0) found)
   pub all : (pass : Pass) (slips : ℕ) → slips ≤ 2
-      → (t : Try) → IsAmong t (tries_at pass text fs slips) → (other : List ℕ) → IsNearTry hrp t other → IsInUseUnder hrp (lowered other)
+      → (t : Try) → IsAmong t (tries_at pass text fs slips)
+      → (other : List ℕ) → IsNearTry hrp t other → IsInUseUnder hrp (lowered other)
       → IsFound found (lowered other)
