@@ -14,7 +14,8 @@ from unittest import mock
 HERE = Path(__file__).resolve().parent.parent
 if not (HERE / "build").is_file():
     raise unittest.SkipTest("the files of the build are not there")
-sys.path.insert(0, str(HERE))
+# At the end: the package that is installed is tested, not the sources beside this file.
+sys.path.append(str(HERE))
 import backend  # noqa: E402
 
 LOADER = importlib.machinery.SourceFileLoader("build", str(HERE / "build"))
