@@ -21,6 +21,8 @@ import backend  # noqa: E402
 LOADER = importlib.machinery.SourceFileLoader("build", str(HERE / "build"))
 build = importlib.util.module_from_spec(importlib.util.spec_from_loader("build", LOADER))
 LOADER.exec_module(build)
+# The script puts its folder first.
+sys.path.remove(str(HERE))
 
 # What objdump says of a shared library, and readelf of its notes.
 LINKED = """
