@@ -9,7 +9,7 @@ import re
 from wasm import Unknown
 
 # The most characters of a method's text. A character is 0.45 bytes of bytecode at most. Tests cut shorter.
-LIMIT = int(os.environ.get("METHOD_LIMIT", "11000"))
+LIMIT = int(os.environ.get("METHOD_LIMIT", "14000"))
 # The most parameters of a method, of which a long one is two.
 PARAMETERS = 250
 NAME = re.compile(r"\b(?:[ltb]\d+|g)\b")
