@@ -29,9 +29,15 @@ is_frame text = is_size (length text) && nat_le (unread_in text) 4
 abbrev pub longest_with_slips : ℕ
 longest_with_slips = long_size + 2
 
--- what one slip makes of a text that is not too long
+-- two slips can make a frame of a text of so many characters
+abbrev pub is_near_size : ℕ → Bool
+is_near_size n =
+    (nat_le short_size (n + 2) && nat_le n (short_size + 2))
+    || (nat_le long_size (n + 2) && nat_le n longest_with_slips)
+
+-- what one slip makes of a text, where two can make a frame
 abbrev pub slipped : List ℕ → List (List ℕ)
-slipped text = if nat_le (length text) longest_with_slips then after_one_slip text else []
+slipped text = if is_near_size (length text) then after_one_slip text else []
 
 -- the k characters from this place on stand twice
 abbrev pub is_doubled : List ℕ → ℕ → ℕ → Bool

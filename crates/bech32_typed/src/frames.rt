@@ -1,7 +1,7 @@
 //! The frames of a typed data part.
 
-ghost use Rattle.std.specs.Prelude.{◌≡◌, ◌<◌, ◌≤◌, ◌+◌, ◌-◌, ◌++◌, ◌∷◌, [], IfOk, OnOk, drop, length, map, true};
-ghost use Rattle.bech32_typed.specs.Frames.{blocks_once, cut_to, deeper, frames_before, frames_by, is_doubled, is_frame, is_size, four_missing, long_size, longest_with_slips, made_by, shortened, slipped, three_missing, unread_in, with_frames, with_three_unread_at, without_block};
+ghost use Rattle.std.specs.Prelude.{◌≡◌, ◌<◌, ◌≤◌, ◌+◌, ◌-◌, ◌++◌, ◌∷◌, [], IfOk, IsTrue, OnOk, drop, length, map, true};
+ghost use Rattle.bech32_typed.specs.Frames.{blocks_once, cut_to, deeper, frames_before, frames_by, is_doubled, is_frame, is_near_size, is_size, four_missing, long_size, longest_with_slips, made_by, shortened, slipped, three_missing, unread_in, with_frames, with_three_unread_at, without_block};
 ghost use Rattle.bech32_typed.specs.Slips.{after_slips};
 
 use crate::slips::{Frame, Slip, joined, places_of, undone};
@@ -28,6 +28,14 @@ fn has_size(size: usize) -> bool
     ensures { result ≡ is_size size }
 {
     size == SHORT || size == LONG
+}
+
+// Whether two slips can make a frame of a text of this size.
+fn is_near(size: usize) -> bool
+    ensures value { result ≡ is_near_size size }
+    ensures short { IsTrue result → size ≤ longest_with_slips }
+{
+    (size >= SHORT - 2 && size <= SHORT + 2) || (size >= LONG - 2 && size <= LONG + 2)
 }
 
 /// How many characters cannot be read.
@@ -76,7 +84,7 @@ fn add_slips<A: Allocator + Copy>(text: &[u8], frames: &mut Frames<A>) -> Result
     ensures { OnOk result (map (λ f. f.items) frames.new.keys
         ≡ with_frames (map (λ f. f.items) frames.old.keys) (slipped text.now)) }
 {
-    if text.len() > LONG + 2 {
+    if !is_near(text.len()) {
         return Ok(());
     }
     add_slips_of(Slip::Swapped, text, frames)?;
@@ -110,7 +118,7 @@ fn add_second_slips<A: Allocator + Copy>(
     ensures { OnOk result (map (λ f. f.items) frames.new.keys
         ≡ with_frames (map (λ f. f.items) frames.old.keys) (deeper true (slipped text.now))) }
 {
-    if text.len() > LONG + 2 {
+    if !is_near(text.len()) {
         return Ok(());
     }
     add_second_slips_of(Slip::Swapped, text, frames)?;
